@@ -1,0 +1,39 @@
+-- Two memories side by side. Assumes nothing.
+use Prim.Native.Nat.{ℕ, _*_, _<_}
+use mathlib.Core.Path.{_≡_}
+use mathlib.Core.List.{List}
+use lib.ListN.{length, getD, take, drop}
+use Rattle.memory.specs.Pages.{Lookup, pageBytes}
+use Rattle.memory.specs.declared.pages.Spot.{Spot}
+use Rattle.memory.specs.declared.pages.Spot.the-variants.{Unlisted, At}
+
+-- what an address holds: nothing, or a byte on a page of a kind
+pub data Cell : Type 0 where
+  absent : Cell
+  present : ℕ → ℕ → Cell
+
+abbrev pub cellIn : List ℕ → Spot → Cell
+cellIn bytes Unlisted = absent
+cellIn bytes (At kind place) = present kind (getD bytes place 0)
+
+abbrev pub cell : Lookup → List ℕ → ℕ → Cell
+cell look bytes address = cellIn bytes (look address)
+
+-- The second memory extends the first: each address that the first holds the second holds with the same kind and byte, and each
+-- address on no page of the first holds what was lent.
+pub record Extends (look₁ : Lookup) (bytes₁ : List ℕ) (look₂ : Lookup) (bytes₂ lent₂ : List ℕ) : Type 0 where
+  pub old : (address kind byte : ℕ) → cell look₁ bytes₁ address ≡ present kind byte → cell look₂ bytes₂ address ≡ present kind byte
+  pub added : (address : ℕ) → look₁ address ≡ Unlisted → cell look₂ bytes₂ address ≡ cell look₂ lent₂ address
+
+-- every place is among the lent bytes, and no two addresses lead to one place
+pub record Places (look : Lookup) (lent : ℕ) : Type 0 where
+  pub inside : (address kind place : ℕ) → look address ≡ At kind place → place < lent
+  pub apart : (a b k l place : ℕ) → look a ≡ At k place → look b ≡ At l place → a ≡ b
+
+-- the bytes of the i-th page
+abbrev pub pageAt : List ℕ → ℕ → List ℕ
+pageAt bytes i = take pageBytes (drop (pageBytes * i) bytes)
+
+-- the second list holds every page of the first with the same kind and bytes, in any order
+pub record HoldsPages (pages₁ bytes₁ pages₂ bytes₂ : List ℕ) : Type 0 where
+  pub each : (i : ℕ) → i < length pages₁ → (j : ℕ) × (j < length pages₂) × (getD pages₂ j 0 ≡ getD pages₁ i 0) × (pageAt bytes₂ j ≡ pageAt bytes₁ i)

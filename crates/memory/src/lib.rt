@@ -1,0 +1,23 @@
+// The memory: the lent pages, what an address leads to, loads and stores.
+//
+// The crates above are built on these contracts alone. No public function has a `requires`: any list of entries, any lent
+// bytes and any access may be handed in, and each contract says outright what comes back and what every lent byte holds.
+mod access;
+mod address;
+mod load;
+mod pages;
+mod store;
+
+pub use access::Access;
+pub use access::Failure;
+pub use access::Kind;
+pub use access::Reach;
+pub use access::Size;
+pub use address::Width;
+pub use address::canonical;
+pub use load::Loaded;
+pub use pages::Listing;
+pub use pages::PAGE_BYTES;
+pub use pages::PAGE_LIMIT;
+pub use pages::Spot;
+pub use pages::find;

@@ -1,0 +1,66 @@
+// Loads: the number that 4 or 8 bytes hold, low byte first.
+ghost use mathlib.Core.Path.{_≡_};
+ghost use Prim.Native.Nat.{_≤_};
+ghost use lib.ListN.{length};
+ghost use Rattle.memory.specs.Address.{wrapped};
+ghost use Rattle.memory.specs.Pages.{spot};
+ghost use Rattle.memory.specs.Access.{byteIn, number as numberOf, load as loadOf};
+use crate::access::Access;
+use crate::access::Failure;
+use crate::access::Reach;
+use crate::address::Width;
+use crate::pages::Spot;
+use crate::pages::find;
+
+// What a load gives.
+pub enum Loaded {
+    Value(u64),
+    Blocked(Failure),
+}
+
+// The byte that an address leads to, as a number.
+fn byte_at(pages: &[u64], bytes: &[u8], address: u64) -> u8
+    ensures { λ r. ⌜ r ≡ byteIn (now (bytes .entry)) (spot (now (pages .entry)) (length (now (bytes .entry))) address) ⌝ }
+{
+    match find(pages, bytes.len(), address) {
+        Spot::Unlisted => 0,
+        Spot::At(_, place) => bytes[place],
+    }
+}
+
+fn wide(byte: u8) -> u64
+    ensures { λ r. ⌜ r ≡ byte ⌝ }
+{
+    byte as u64
+}
+
+// The number that n bytes hold. It is built from the last byte down, so that each turn is one multiplication and one sum.
+fn number(pages: &[u64], bytes: &[u8], width: Width, first: u64, n: u64) -> u64
+    requires { ⌜ n ≤ 8 ⌝ }
+    ensures { λ r. ⌜ r ≡ numberOf (spot (now (pages .entry)) (length (now (bytes .entry)))) (now (bytes .entry)) width (wrapped width first) n ⌝ }
+{
+    let mut value: u64 = 0;
+    let mut left = n;
+    while 0 < left {
+        left -= 1;
+        let byte = byte_at(pages, bytes, width.plus(first, left));
+        value = value * 256 + wide(byte);
+    }
+    value
+}
+
+impl Access {
+    // Tries the access, and loads its bytes where it can be done.
+    pub fn load(self, pages: &[u64], bytes: &[u8]) -> Loaded
+        ensures { λ r. ⌜ r ≡ loadOf (spot (now (pages .entry)) (length (now (bytes .entry)))) (now (bytes .entry)) self ⌝ }
+    {
+        match self.probe(pages, bytes.len()) {
+            Reach::Blocked(failure) => Loaded::Blocked(failure),
+            Reach::Ready => {
+                let width = self.width;
+                let size = self.size;
+                Loaded::Value(number(pages, bytes, width, self.first, size.bytes()))
+            }
+        }
+    }
+}

@@ -1,0 +1,82 @@
+//! The command line of the second program.
+
+#![deny(missing_docs)]
+#![forbid(unsafe_code)]
+
+use driftpocket_reference::{random, script};
+use std::io::{self, BufWriter, Read, Write};
+use std::process::ExitCode;
+
+/// What is written when the arguments are not understood.
+const USAGE: &str = "\
+usage: reference memory < SCRIPT
+       reference random SEED COUNT
+memory answers a memory script.
+random writes a memory script of COUNT lines; SEED and COUNT are decimal.";
+
+/// What the arguments ask for.
+enum Task {
+    /// Answer the memory script on standard input.
+    Memory,
+    /// Write a random memory script.
+    Random { seed: u64, count: u64 },
+}
+
+fn main() -> ExitCode {
+    let words: Option<Vec<String>> = std::env::args_os()
+        .skip(1)
+        .map(|word| word.into_string().ok())
+        .collect();
+    let Some(task) = words.and_then(|words| read_task(&words)) else {
+        eprintln!("{USAGE}");
+        return ExitCode::from(2);
+    };
+    match carry_out(&task) {
+        Ok(()) => ExitCode::SUCCESS,
+        Err(error) => {
+            eprintln!("reference: {error}");
+            ExitCode::FAILURE
+        }
+    }
+}
+
+/// Understands the arguments.
+fn read_task(words: &[String]) -> Option<Task> {
+    match words {
+        [word] if word == "memory" => Some(Task::Memory),
+        [word, seed, count] if word == "random" => Some(Task::Random {
+            seed: read_decimal(seed)?,
+            count: read_decimal(count)?,
+        }),
+        _ => None,
+    }
+}
+
+/// Reads decimal digits, and nothing but digits.
+fn read_decimal(word: &str) -> Option<u64> {
+    let only_digits = word.bytes().all(|byte| byte.is_ascii_digit());
+    only_digits.then(|| word.parse().ok()).flatten()
+}
+
+/// Does what was asked for.
+fn carry_out(task: &Task) -> io::Result<()> {
+    let mut output = BufWriter::new(io::stdout().lock());
+    match *task {
+        Task::Memory => output.write_all(&script::run(&read_input()?))?,
+        Task::Random { seed, count } => {
+            let mut author = random::Author::new(seed);
+            for _ in 0..count {
+                writeln!(output, "{}", author.line())?;
+            }
+        }
+    }
+    output.flush()
+}
+
+/// Reads standard input, and one byte past the longest allowed at most.
+fn read_input() -> io::Result<Vec<u8>> {
+    let mut input = Vec::new();
+    let most = script::LONGEST_INPUT as u64 + 1;
+    io::stdin().lock().take(most).read_to_end(&mut input)?;
+    Ok(input)
+}
