@@ -52,7 +52,7 @@ found (entry ∷ rest) i lent address kind place e =
 -- ---- what every answer has
 
 module _ (pages : List ℕ) (lent address kind place : ℕ) (e : spot pages lent address ≡ At kind place) where
-  behind : Found pages 0 lent address kind place
+  pub behind : Found pages 0 lent address kind place
   unfolding spot
   behind = found pages 0 lent address kind place e
 

@@ -1,9 +1,10 @@
 -- Two memories side by side. Assumes nothing.
 use Prim.Native.Nat.{ℕ, _*_, _<_}
 use mathlib.Core.Path.{_≡_}
+use mathlib.Core.Bool.{false}
 use mathlib.Core.List.{List}
 use lib.ListN.{length, getD, take, drop}
-use Rattle.memory.specs.Pages.{Lookup, pageBytes}
+use Rattle.memory.specs.Pages.{Lookup, pageBytes, pageOf, onPage, anyEntry}
 use Rattle.memory.specs.declared.pages.Spot.{Spot}
 use Rattle.memory.specs.declared.pages.Spot.the-variants.{Unlisted, At}
 
@@ -37,3 +38,7 @@ pageAt bytes i = take pageBytes (drop (pageBytes * i) bytes)
 -- the second list holds every page of the first with the same kind and bytes, in any order
 pub record HoldsPages (pages₁ bytes₁ pages₂ bytes₂ : List ℕ) : Type 0 where
   pub each : (i : ℕ) → i < length pages₁ → (j : ℕ) × (j < length pages₂) × (getD pages₂ j 0 ≡ getD pages₁ i 0) × (pageAt bytes₂ j ≡ pageAt bytes₁ i)
+
+-- the pages of the second list that the first does not list hold what was lent
+pub record Untouched (pages₁ pages₂ bytes₂ lent₂ : List ℕ) : Type 0 where
+  pub each : (j : ℕ) → j < length pages₂ → anyEntry (onPage (pageOf (getD pages₂ j 0))) pages₁ ≡ false → pageAt bytes₂ j ≡ pageAt lent₂ j

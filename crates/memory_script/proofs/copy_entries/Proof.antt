@@ -1,0 +1,72 @@
+use Rattle.memory_script.proofs.copy_entries.Statement.{statement}
+use Rattle.memory_script.proofs.copy_entries.Tie as tie
+use Rattle.memory_script.proofs.copy_entries.Reads as reads
+use Rattle.memory_script.proofs.copy_entries.Lts as lts
+
+abbrev Inv-loop : tie.InvT-loop
+Inv-loop numbers pages₀ entries i₀ pages i = ?
+
+abbrev μ-loop : tie.MeasureT-loop
+μ-loop numbers pages₀ entries i₀ pages i = ?
+
+-- src/main.rt:335:5
+loop-holds : tie.Need-loop-holds Inv-loop μ-loop
+loop-holds c = ?
+
+-- src/main.rt:336:28
+add-pages : tie.Need-add-pages Inv-loop μ-loop
+add-pages c = ?
+
+-- src/main.rt:336:20
+mul-pages : tie.Need-mul-pages Inv-loop μ-loop
+mul-pages c = ?
+
+-- src/main.rt:336:20
+element-copy-out-pages : tie.Need-element-copy-out-pages Inv-loop μ-loop
+element-copy-out-pages c = ?
+
+-- src/main.rt:336:9
+mul-pages-2 : tie.Need-mul-pages-2 Inv-loop μ-loop
+mul-pages-2 c = ?
+
+-- src/main.rt:336:9
+slice-write-pages : tie.Need-slice-write-pages Inv-loop μ-loop
+slice-write-pages c = ?
+
+-- src/main.rt:337:9
+add-i : tie.Need-add-i Inv-loop μ-loop
+add-i c = ?
+
+-- src/main.rt:335:5
+loop-less : tie.Need-loop-less Inv-loop μ-loop
+loop-less c = ?
+
+-- src/main.rt:335:5
+loop-again : tie.Need-loop-again Inv-loop μ-loop
+loop-again c = ?
+
+-- src/main.rt:333:1
+same-length : tie.Need-same-length Inv-loop μ-loop
+same-length c = ?
+
+-- src/main.rt:333:1
+returns : tie.Need-returns Inv-loop μ-loop
+returns c = ?
+
+pub copy-entries-spec : {M : Type 1} → statement M
+copy-entries-spec =
+    tie.close
+    (tie.spec
+    Inv-loop
+    μ-loop
+    loop-holds
+    add-pages
+    mul-pages
+    element-copy-out-pages
+    mul-pages-2
+    slice-write-pages
+    add-i
+    loop-less
+    loop-again
+    same-length
+    returns)

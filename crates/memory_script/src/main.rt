@@ -1,0 +1,471 @@
+// Answers a memory script: page lists, finds, loads, stores and sums, one to a line, from standard input to standard output.
+//
+// A line is read whole before it is answered, so that a malformed one changes nothing. No contract can speak of what is
+// written: the contracts are about what a line says and what is lent.
+ghost use mathlib.Core.Path.{_≡_};
+ghost use Prim.Native.Nat.{_≤_};
+ghost use lib.ListN.{length};
+use libc::STDIN_FILENO;
+use libc::STDOUT_FILENO;
+use memory::Access;
+use memory::Failure;
+use memory::Kind;
+use memory::Listing;
+use memory::Loaded;
+use memory::Reach;
+use memory::Size;
+use memory::Spot;
+use memory::Width;
+
+// The longest input, in bytes.
+const INPUT_LIMIT: usize = 262144;
+
+// The most bytes that a `pages` line lends, and its most entries: more than a page list may have, so that a script can try
+// the refusals.
+const LENT_LIMIT: u64 = 73728;
+
+const ENTRY_LIMIT: usize = 18;
+
+// The most numbers of a line: a length and the entries.
+const NUMBER_LIMIT: usize = 19;
+
+enum Command {
+    Pages,
+    Find,
+    Load,
+    Store,
+    Sum,
+}
+
+// What the first field of a line is.
+enum Word {
+    Known(Command),
+    Unknown,
+}
+
+// What another field is.
+enum Number {
+    Value(u64),
+    Malformed,
+}
+
+// The numbers of a line: how many stand ahead of the first wrong field, and whether they are all and enough.
+struct Reading {
+    count: usize,
+    whole: bool,
+}
+
+// The last page list: how many entries it has, how many bytes were lent for it, and the number of its refusal or 0.
+struct PageList {
+    entries: usize,
+    lent: usize,
+    refusal: u64,
+}
+
+// ---- reading a line
+
+// The place of the first `stop` from a place on, or the text's end.
+fn find_byte(text: &[u8], from: usize, stop: u8) -> usize
+    requires { ⌜ from ≤ length (now text) ⌝ }
+    ensures { λ r. ⌜ (from ≤ r) × (r ≤ length (now (text .entry))) ⌝ }
+{
+    let mut i = from;
+    while i < text.len() {
+        if text[i] == stop {
+            return i;
+        }
+        i += 1;
+    }
+    i
+}
+
+fn read_word(word: &[u8]) -> Word {
+    if check::same(word, b"pages") {
+        return Word::Known(Command::Pages);
+    }
+    if check::same(word, b"find") {
+        return Word::Known(Command::Find);
+    }
+    if check::same(word, b"load") {
+        return Word::Known(Command::Load);
+    }
+    if check::same(word, b"store") {
+        return Word::Known(Command::Store);
+    }
+    if check::same(word, b"sum") {
+        return Word::Known(Command::Sum);
+    }
+    Word::Unknown
+}
+
+fn wide(byte: u8) -> u64
+    ensures { λ r. ⌜ r ≡ byte ⌝ }
+{
+    byte as u64
+}
+
+// The value of a hexadecimal digit, or 16 for any other byte.
+fn digit(byte: u8) -> u64
+    ensures { λ r. ⌜ r ≤ 16 ⌝ }
+{
+    let code = wide(byte);
+    match byte {
+        b'0'..=b'9' => code - 48,
+        b'a'..=b'f' => code - 87,
+        _ => 16,
+    }
+}
+
+fn read_number(field: &[u8]) -> Number {
+    if field.len() == 0 {
+        return Number::Malformed;
+    }
+    if 16 < field.len() {
+        return Number::Malformed;
+    }
+    let mut value: u64 = 0;
+    let mut i = 0;
+    while i < field.len() {
+        let next = digit(field[i]);
+        if 15 < next {
+            return Number::Malformed;
+        }
+        value = value * 16 + next;
+        i += 1;
+    }
+    Number::Value(value)
+}
+
+// Whether n can be the number at a place of a load or a store: its kind, width, canonical flag, size, first address and value.
+fn access_allows(place: usize, n: u64) -> bool {
+    match place {
+        0 => n == 1 || n == 2 || n == 3,
+        1 => n == 4 || n == 8,
+        2 => n == 0 || n == 1,
+        3 => n == 4 || n == 8,
+        _ => true,
+    }
+}
+
+// Whether n can be a command's number at a place, counted from 0. Nothing can be where the command has no such number.
+fn allows(command: Command, place: usize, n: u64) -> bool {
+    match command {
+        Command::Pages => place != 0 || n <= LENT_LIMIT,
+        Command::Find => place == 0,
+        Command::Load => place < 5 && access_allows(place, n),
+        Command::Store => place < 6 && access_allows(place, n),
+        Command::Sum => place < 3 && (place != 0 || n == 4 || n == 8),
+    }
+}
+
+// How many numbers a command has at least.
+fn fewest(command: Command) -> usize {
+    match command {
+        Command::Pages => 1,
+        Command::Find => 1,
+        Command::Load => 5,
+        Command::Store => 6,
+        Command::Sum => 3,
+    }
+}
+
+// Reads the fields that follow a line's word, each with the space ahead of it, up to the first that is wrong.
+fn read_numbers(command: Command, fields: &[u8], numbers: &mut [u64; 19]) -> Reading {
+    let mut count: usize = 0;
+    let mut at = 0;
+    while at < fields.len() {
+        let start = at + 1;
+        at = find_byte(fields, start, b' ');
+        if count == NUMBER_LIMIT {
+            return Reading {
+                count,
+                whole: false,
+            };
+        }
+        match read_number(&fields[start..at]) {
+            Number::Malformed => return Reading {
+                count,
+                whole: false,
+            },
+            Number::Value(n) => {
+                if !allows(command, count, n) {
+                    return Reading {
+                        count,
+                        whole: false,
+                    };
+                }
+                numbers[count] = n;
+            }
+        }
+        count += 1;
+    }
+    Reading {
+        count,
+        whole: fewest(command) <= count,
+    }
+}
+
+// ---- writing
+
+fn print(text: &[u8]) {
+    io::write_all(STDOUT_FILENO, text);
+}
+
+// A text, and a number after it.
+fn print_with(text: &[u8], n: u64) {
+    print(text);
+    io::print_hex(STDOUT_FILENO, n, 1);
+}
+
+fn print_refused_field(line: u64, field: usize) {
+    print(b"line ");
+    io::print_decimal(STDOUT_FILENO, line);
+    print(b", field ");
+    io::print_decimal(STDOUT_FILENO, field as u64);
+    print(b": refused\n");
+}
+
+fn print_failure(failure: Failure) {
+    match failure {
+        Failure::NotCanonical => print(b"not canonical"),
+        Failure::NotListed(address) => print_with(b"no page ", address),
+        Failure::WrongKind(address) => print_with(b"wrong kind ", address),
+    }
+}
+
+// ---- the lent bytes
+
+// What is lent at a place: (13 * place + place / 256 + 7) mod 256, in parts that no place makes too large.
+fn lent_byte(place: usize) -> u8 {
+    ((13 * (place % 256) + place / 256 % 256 + 7) % 256) as u8
+}
+
+fn fill(bytes: &mut [u8]) {
+    let mut place = 0;
+    while place < bytes.len() {
+        bytes[place] = lent_byte(place);
+        place += 1;
+    }
+}
+
+// Writes each byte that is not as it was lent.
+fn print_changes(bytes: &[u8]) {
+    let mut place = 0;
+    while place < bytes.len() {
+        let byte = bytes[place];
+        if byte != lent_byte(place) {
+            print_with(b" ", place as u64);
+            print_with(b"=", wide(byte));
+        }
+        place += 1;
+    }
+}
+
+// ---- answering a line
+
+fn kind(n: u64) -> Kind {
+    match n {
+        1 => Kind::UserShadow,
+        2 => Kind::SupervisorShadow,
+        _ => Kind::Ordinary,
+    }
+}
+
+fn width(n: u64) -> Width {
+    match n {
+        4 => Width::Bits32,
+        _ => Width::Bits64,
+    }
+}
+
+fn size(n: u64) -> Size {
+    match n {
+        4 => Size::Four,
+        _ => Size::Eight,
+    }
+}
+
+fn access(numbers: &[u64; 19], store: bool) -> Access {
+    let kind = kind(numbers[0]);
+    let width = width(numbers[1]);
+    let size = size(numbers[3]);
+    Access {
+        kind,
+        store,
+        user: numbers[0] == 1,
+        first: numbers[4],
+        size,
+        width,
+        canonical: numbers[2] == 1,
+    }
+}
+
+fn answer_find(address: u64, pages: &[u64], lent: usize) {
+    match memory::find(pages, lent, address) {
+        Spot::Unlisted => print(b"no page"),
+        Spot::At(kind, place) => {
+            print_with(b"kind ", kind);
+            print_with(b" place ", place as u64);
+        }
+    }
+}
+
+fn answer_load(access: Access, pages: &[u64], bytes: &[u8]) {
+    match access.load(pages, bytes) {
+        Loaded::Value(value) => print_with(b"value ", value),
+        Loaded::Blocked(failure) => print_failure(failure),
+    }
+}
+
+fn answer_store(access: Access, value: u64, pages: &[u64], bytes: &mut [u8]) {
+    match access.store(pages, bytes, value) {
+        Reach::Ready => print(b"stored"),
+        Reach::Blocked(failure) => print_failure(failure),
+    }
+    print_changes(bytes);
+}
+
+fn answer_sum(width: Width, a: u64, b: u64) {
+    print_with(b"plus ", width.plus(a, b));
+    print_with(b" minus ", width.minus(a, b));
+}
+
+fn copy_entries(numbers: &[u64; 19], pages: &mut [u64], entries: usize) {
+    let mut i = 0;
+    while i < entries {
+        pages[i] = numbers[i + 1];
+        i += 1;
+    }
+}
+
+fn answer_pages(
+    numbers: &[u64; 19],
+    count: usize,
+    pages: &mut [u64],
+    bytes: &mut [u8],
+) -> PageList {
+    let entries = count - 1;
+    let lent = numbers[0] as usize;
+    copy_entries(numbers, pages, entries);
+    fill(&mut bytes[..lent]);
+    let refusal = Listing::of(&pages[..entries], lent).number();
+    print_with(b"refusal ", refusal);
+    PageList {
+        entries,
+        lent,
+        refusal,
+    }
+}
+
+// Whether a command is answered by the last page list, and so not done where that was refused.
+fn asks_pages(command: Command) -> bool {
+    match command {
+        Command::Pages => false,
+        Command::Find => true,
+        Command::Load => true,
+        Command::Store => true,
+        Command::Sum => false,
+    }
+}
+
+fn answer(
+    list: PageList,
+    command: Command,
+    numbers: &[u64; 19],
+    count: usize,
+    pages: &mut [u64],
+    bytes: &mut [u8],
+) -> PageList {
+    let entries = list.entries;
+    let lent = list.lent;
+    if asks_pages(command) && list.refusal != 0 {
+        print_with(b"refusal ", list.refusal);
+        return list;
+    }
+    match command {
+        Command::Pages => return answer_pages(numbers, count, pages, bytes),
+        Command::Find => answer_find(numbers[0], &pages[..entries], lent),
+        Command::Load => answer_load(access(numbers, false), &pages[..entries], &bytes[..lent]),
+        Command::Store => answer_store(
+            access(numbers, true),
+            numbers[5],
+            &pages[..entries],
+            &mut bytes[..lent],
+        ),
+        Command::Sum => answer_sum(width(numbers[0]), numbers[1], numbers[2]),
+    }
+    list
+}
+
+fn is_skipped(line: &[u8]) -> bool {
+    line.len() == 0 || line[0] == b'#'
+}
+
+fn answer_line(
+    list: PageList,
+    line: &[u8],
+    line_number: u64,
+    pages: &mut [u64],
+    bytes: &mut [u8],
+) -> PageList {
+    if is_skipped(line) {
+        return list;
+    }
+    let end = find_byte(line, 0, b' ');
+    let Word::Known(command) = read_word(&line[..end]) else {
+        print_refused_field(line_number, 1);
+        return list;
+    };
+    let mut numbers = [0u64; 19];
+    let reading = read_numbers(command, &line[end..], &mut numbers);
+    if !reading.whole {
+        print_refused_field(line_number, reading.count + 2);
+        return list;
+    }
+    print(line);
+    print(b" -> ");
+    let next = answer(list, command, &numbers, reading.count, pages, bytes);
+    print(b"\n");
+    next
+}
+
+fn run(input: &[u8], pages: &mut [u64], bytes: &mut [u8]) {
+    let mut list = PageList {
+        entries: 0,
+        lent: 0,
+        refusal: 0,
+    };
+    let mut line_number: u64 = 1;
+    let mut start = 0;
+    while start < input.len() {
+        let end = find_byte(input, start, b'\n');
+        list = answer_line(list, &input[start..end], line_number, pages, bytes);
+        line_number += 1;
+        start = end + 1;
+    }
+}
+
+// One byte more than the longest input, so that a longer one shows.
+fn input_buffer() -> [u8; 262145]
+    ensures { λ r. ⌜ 262145 ≡ length r ⌝ }
+{
+    [0; 262145]
+}
+
+fn lent_buffer() -> [u8; 73728]
+    ensures { λ r. ⌜ 73728 ≡ length r ⌝ }
+{
+    [0; 73728]
+}
+
+fn main() {
+    let mut input = input_buffer();
+    let n = io::read_full(STDIN_FILENO, &mut input);
+    if INPUT_LIMIT < n {
+        print(b"input too long\n");
+        return;
+    }
+    let mut pages = [0u64; 18];
+    let mut bytes = lent_buffer();
+    run(&input[..n], &mut pages, &mut bytes);
+}
