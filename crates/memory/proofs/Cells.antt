@@ -1,20 +1,18 @@
 -- A byte of memory by its address, before and after a store, and over two memories. Assumes nothing.
-use Prim.Native.Nat.{ℕ, zero, suc, _+_, _*_, _/_, _%_, _<_}
+use Prim.Native.Nat.{ℕ}
 use mathlib.Core.Path.{_≡_, refl, sym, _∙_, ap, subst}
 use mathlib.Core.Bool.{Bool, true, false, cond}
 use mathlib.Core.List.{List}
-use native.Mathlib.Decide.{ℕ-discrete}
 use native.Mathlib.Omega.{arith}
 use lib.ListN.{length, getD, set}
 use lib.Seq.{getD-set-same, getD-set-other}
 use lib.Dec.{eqb}
 use Rattle.memory.specs.Pages.{Lookup}
-use Rattle.memory.specs.Access.{onKind, listedByte, byteIn, putByte}
-use Rattle.memory.specs.Extends.{Cell, absent, present, cellIn, cell, Extends, Places}
+use Rattle.memory.specs.Access.{onKind, byteIn, putByte}
+use Rattle.memory.specs.Extends.{Cell, absent, present, cellIn, cell, Places}
 use Rattle.memory.specs.declared.pages.Spot.{Spot}
 use Rattle.memory.specs.declared.pages.Spot.the-variants.{Unlisted, At}
 use Rattle.memory.specs.declared.access.Failure.the-variants.{WrongKind}
-use Rattle.memory.specs.declared.access.Reach.{Reach}
 use Rattle.memory.specs.declared.access.Reach.the-variants.{Ready, Blocked}
 use Rattle.memory.proofs.Parts.{length-put}
 

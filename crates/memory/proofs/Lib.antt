@@ -1,12 +1,13 @@
--- Laws that belong to no one function.
-pub mod Answers
-pub mod Cells
-pub mod KindTests
-pub mod Lookup
-pub mod Numbers
-pub mod PageLists
-pub mod Parts
-pub mod Steps
-pub mod Sums
-pub mod TwoMemories
-pub mod Valid
+-- Laws that belong to no one function. The crates above cite `Laws` alone.
+pub mod Laws
+mod Answers
+mod Cells
+mod KindTests
+mod Lookup
+mod Numbers
+mod PageLists
+mod Parts
+mod Steps
+mod Sums
+mod TwoMemories
+mod Valid

@@ -1,8 +1,8 @@
 -- Where addresses lead: the entry behind each answer of `spot`. From it: every place is among the lent bytes, its page is lent
 -- whole, no two addresses share a place, and in a list without equal addresses every entry is found. Assumes nothing.
-use Prim.Native.Nat.{ℕ, zero, suc, _+_, _-_, _*_, _/_, _%_, _<_, _≤_}
+use Prim.Native.Nat.{ℕ, suc, _+_, _-_, _*_, _/_, _%_, _<_, _≤_}
 use mathlib.Core.Path.{_≡_, refl, sym, _∙_, ap}
-use mathlib.Core.Bool.{Bool, true, false, cond, _||_, true≢false, false≢true}
+use mathlib.Core.Bool.{Bool, true, false, cond}
 use mathlib.Core.List.{List, [], _∷_}
 use native.Mathlib.Omega.{arith}
 use lib.ListN.{length, getD}
@@ -10,7 +10,6 @@ use lib.Dec.{ltb}
 use borrow.Author.Tests.{ltb-true, eqb-true}
 use Rattle.memory.specs.Pages.{pageBytes, pageOf, kindOf, onPage, inPage, spotFrom, spot}
 use Rattle.memory.specs.Extends.{Places}
-use Rattle.memory.specs.declared.pages.Spot.{Spot}
 use Rattle.memory.specs.declared.pages.Spot.the-variants.{Unlisted, At}
 
 -- the entry that an address is found by: the j-th of the list

@@ -1,18 +1,16 @@
 -- From two page lists to two memories side by side, and back. Assumes nothing.
-use Prim.Native.Nat.{ℕ, _+_, _*_, _/_, _%_, _<_, _≤_}
+use Prim.Native.Nat.{ℕ, _+_, _*_, _%_, _<_}
 use mathlib.Core.Path.{_≡_, refl, sym, _∙_, ap, ap₂}
 use mathlib.Core.Bool.{false}
 use mathlib.Core.List.{List}
 use native.Mathlib.Omega.{arith}
-use lib.ListN.{length, getD, take, drop, length-take, length-drop}
+use lib.ListN.{length, getD, drop, length-take, length-drop}
 use lib.Seq.{getD-take, getD-drop, ext-getD}
 use Rattle.memory.specs.Pages.{pageBytes, pageOf, kindOf, onPage, anyEntry, listing, spot}
-use Rattle.memory.specs.Extends.{Cell, absent, present, cellIn, cell, Extends, pageAt, HoldsPages, Untouched}
+use Rattle.memory.specs.Extends.{Cell, absent, present, cell, Extends, pageAt, HoldsPages, Untouched}
 use Rattle.memory.specs.declared.pages.Listing.the-variants.{Valid}
-use Rattle.memory.specs.declared.pages.Spot.{Spot}
-use Rattle.memory.specs.declared.pages.Spot.the-variants.{Unlisted, At}
-use Rattle.memory.proofs.Cells.{Held, held, cell-at}
-use Rattle.memory.proofs.Lookup.{Found, behind}
+use Rattle.memory.proofs.Cells.{held, cell-at}
+use Rattle.memory.proofs.Lookup.{behind}
 use Rattle.memory.proofs.Valid.{Good, valid, listed, unlisted}
 
 -- a byte of a page, among the lent bytes

@@ -1,8 +1,8 @@
 -- The turns of the loops: what each definition that recurs gives from a place on, in the terms of the code. Assumes nothing.
-use Prim.Native.Nat.{ℕ, zero, suc, _+_, _-_, _*_, _/_, _%_, _<_, _≤_}
+use Prim.Native.Nat.{ℕ, suc, _+_, _-_, _*_, _/_, _%_, _<_, _≤_}
 use mathlib.Core.Path.{_≡_, refl, sym, _∙_, ap}
 use mathlib.Core.Bool.{Bool, true, false, cond, _||_}
-use mathlib.Core.List.{List, [], _∷_}
+use mathlib.Core.List.{List}
 use native.Mathlib.Numerals.{add-one}
 use native.Mathlib.Omega.{arith}
 use lib.ListN.{length, getD, take, drop, length-drop, drop-of-length-le}
@@ -14,8 +14,7 @@ use Rattle.memory.specs.Access.{andThen, scan, byteIn, number, putByte, 
 use Rattle.memory.specs.declared.address.Width.{Width}
 use Rattle.memory.specs.declared.access.Reach.{Reach}
 use Rattle.memory.specs.declared.access.Reach.the-variants.{Ready}
-use Rattle.memory.specs.declared.pages.Spot.{Spot}
-use Rattle.memory.specs.declared.pages.Spot.the-variants.{Unlisted, At}
+use Rattle.memory.specs.declared.pages.Spot.the-variants.{Unlisted}
 
 -- ---- an entry and a page
 

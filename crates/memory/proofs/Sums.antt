@@ -1,6 +1,6 @@
 -- Sums that wrap. Assumes nothing.
 use Prim.Native.Nat.{ℕ, _+_, _-_, _%_, _^_, _<_, _≤_}
-use mathlib.Core.Path.{_≡_, refl, sym, _∙_, ap}
+use mathlib.Core.Path.{_≡_, sym, _∙_, ap}
 use native.Mathlib.Omega.{arith}
 use Rattle.memory.specs.Address.{modulus, wrapped, plus, minus}
 use Rattle.memory.specs.declared.address.Width.{Width}

@@ -1,25 +1,24 @@
 -- The laws of two memories side by side, over any two lookups. What the first can do the second does alike. Assumes nothing.
-use Prim.Native.Nat.{ℕ, zero, suc, _+_, _*_, _/_, _%_, _<_}
-use mathlib.Core.Path.{_≡_, refl, sym, _∙_, ap, ap₂}
+use Prim.Native.Nat.{ℕ, zero, suc, _/_, _%_}
+use mathlib.Core.Path.{_≡_, refl, sym, _∙_, ap}
 use mathlib.Core.Bool.{Bool, true, false, cond}
 use mathlib.Core.List.{List}
 use native.Mathlib.Decide.{ℕ-discrete}
 use native.Mathlib.Omega.{arith}
 use lib.ListN.{length, getD}
+use lib.Dec.{eqb}
 use Rattle.memory.specs.Address.{plus, canonical}
 use Rattle.memory.specs.Pages.{Lookup}
-use Rattle.memory.specs.Access.{kindNumber, byteCount, andThen, scan, start, canonicalByte, onKind, listedByte, canonicalBytes, listedBytes, probe, byteIn, number, value, putByte, write, written}
-use Rattle.memory.specs.Extends.{Cell, absent, present, cell, Extends, Places}
+use Rattle.memory.specs.Access.{kindNumber, byteCount, andThen, scan, start, onKind, listedByte, canonicalBytes, listedBytes, probe, byteIn, number, value, putByte, write, written}
+use Rattle.memory.specs.Extends.{present, cell, Extends, Places}
 use Rattle.memory.specs.declared.address.Width.{Width}
 use Rattle.memory.specs.declared.pages.Spot.{Spot}
 use Rattle.memory.specs.declared.pages.Spot.the-variants.{Unlisted, At}
 use Rattle.memory.specs.declared.access.Access.{Access}
-use Rattle.memory.specs.declared.access.Failure.{Failure}
-use Rattle.memory.specs.declared.access.Failure.the-variants.{NotCanonical, NotListed, WrongKind}
+use Rattle.memory.specs.declared.access.Failure.the-variants.{NotCanonical, WrongKind}
 use Rattle.memory.specs.declared.access.Reach.{Reach}
 use Rattle.memory.specs.declared.access.Reach.the-variants.{Ready, Blocked}
-use Rattle.memory.proofs.Cells.{Reached, reached, cell-at, cellByte, cell-byte, held, put-here, put-there, places-put}
-use lib.Dec.{eqb}
+use Rattle.memory.proofs.Cells.{reached, cell-at, cellByte, cell-byte, held, put-here, put-there, places-put}
 use Rattle.memory.proofs.Parts.{length-put}
 
 -- ---- trying

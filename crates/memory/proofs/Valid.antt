@@ -6,7 +6,7 @@ use mathlib.Core.List.{List, [], _∷_}
 use native.Mathlib.Omega.{arith}
 use lib.ListN.{length, getD}
 use lib.Dec.{eqb, ltb}
-use borrow.Author.Tests.{lt-ltb, eqb-true, eqb-false, not-false}
+use borrow.Author.Tests.{lt-ltb, eqb-true, not-false}
 use Rattle.memory.specs.Pages.{pageBytes, pageLimit, pageOf, kindOf, onPage, anyEntry, badKind, badAddress, wrongLength, repeated, listing, inPage, spotFrom, spot}
 use Rattle.memory.specs.declared.pages.Listing.{Listing}
 use Rattle.memory.specs.declared.pages.Listing.the-variants.{Valid, BadLength, BadKind, BadAddress, Repeated}

@@ -1,10 +1,14 @@
 // Answers a memory script: page lists, finds, loads, stores and sums, one to a line, from standard input to standard output.
 //
 // A line is read whole before it is answered, so that a malformed one changes nothing. No contract can speak of what is
-// written: the contracts are about what a line says and what is lent.
+// written: the contracts here are about what a line says and what is lent.
 ghost use mathlib.Core.Path.{_≡_};
-ghost use Prim.Native.Nat.{_≤_};
-ghost use lib.ListN.{length};
+ghost use mathlib.Core.Bool.{true};
+ghost use Prim.Native.Nat.{_+_, _-_, _≤_, _<_};
+ghost use lib.ListN.{length, take};
+ghost use Rattle.memory.specs.Access.{kindNumber, byteCount};
+ghost use Rattle.memory_script.specs.Line.{FirstFrom, Spelt, digitOf, numberOf, FirstFits, Numbers};
+ghost use Rattle.memory_script.specs.Lent.{lentByte, Fresh, entriesOf, pageListOf, Held};
 use libc::STDIN_FILENO;
 use libc::STDOUT_FILENO;
 use memory::Access;
@@ -20,9 +24,9 @@ use memory::Width;
 // The longest input, in bytes.
 const INPUT_LIMIT: usize = 262144;
 
-// The most bytes that a `pages` line lends, and its most entries: more than a page list may have, so that a script can try
-// the refusals.
-const LENT_LIMIT: u64 = 73728;
+// The most bytes and the most entries of a `pages` line. Both are past what a page list may have, so that a script can be
+// refused for them.
+const LENT_LIMIT: usize = 73728;
 
 const ENTRY_LIMIT: usize = 18;
 
@@ -43,13 +47,13 @@ enum Word {
     Unknown,
 }
 
-// What another field is.
+// What a later field is.
 enum Number {
     Value(u64),
     Malformed,
 }
 
-// The numbers of a line: how many stand ahead of the first wrong field, and whether they are all and enough.
+// The numbers of a line: how many stand before the first wrong field, and whether they are all of the line and enough.
 struct Reading {
     count: usize,
     whole: bool,
@@ -64,10 +68,10 @@ struct PageList {
 
 // ---- reading a line
 
-// The place of the first `stop` from a place on, or the text's end.
+// The first place from a place on that has the byte, or the text's end.
 fn find_byte(text: &[u8], from: usize, stop: u8) -> usize
     requires { ⌜ from ≤ length (now text) ⌝ }
-    ensures { λ r. ⌜ (from ≤ r) × (r ≤ length (now (text .entry))) ⌝ }
+    ensures { λ r. ⌜ FirstFrom (now (text .entry)) from stop r ⌝ }
 {
     let mut i = from;
     while i < text.len() {
@@ -79,20 +83,22 @@ fn find_byte(text: &[u8], from: usize, stop: u8) -> usize
     i
 }
 
-fn read_word(word: &[u8]) -> Word {
-    if check::same(word, b"pages") {
+fn read_word(text: &[u8]) -> Word
+    ensures { λ r. ⌜ Spelt (now (text .entry)) r ⌝ }
+{
+    if check::same(text, b"pages") {
         return Word::Known(Command::Pages);
     }
-    if check::same(word, b"find") {
+    if check::same(text, b"find") {
         return Word::Known(Command::Find);
     }
-    if check::same(word, b"load") {
+    if check::same(text, b"load") {
         return Word::Known(Command::Load);
     }
-    if check::same(word, b"store") {
+    if check::same(text, b"store") {
         return Word::Known(Command::Store);
     }
-    if check::same(word, b"sum") {
+    if check::same(text, b"sum") {
         return Word::Known(Command::Sum);
     }
     Word::Unknown
@@ -106,7 +112,7 @@ fn wide(byte: u8) -> u64
 
 // The value of a hexadecimal digit, or 16 for any other byte.
 fn digit(byte: u8) -> u64
-    ensures { λ r. ⌜ r ≤ 16 ⌝ }
+    ensures { λ r. ⌜ r ≡ digitOf byte ⌝ }
 {
     let code = wide(byte);
     match byte {
@@ -116,7 +122,9 @@ fn digit(byte: u8) -> u64
     }
 }
 
-fn read_number(field: &[u8]) -> Number {
+fn read_number(field: &[u8]) -> Number
+    ensures { λ r. ⌜ r ≡ numberOf (now (field .entry)) ⌝ }
+{
     if field.len() == 0 {
         return Number::Malformed;
     }
@@ -136,30 +144,50 @@ fn read_number(field: &[u8]) -> Number {
     Number::Value(value)
 }
 
-// Whether n can be the number at a place of a load or a store: its kind, width, canonical flag, size, first address and value.
+fn one_of(n: u64, a: u64, b: u64) -> bool {
+    n == a || n == b
+}
+
+// Whether n can be the number at a place of a load or a store: kind, width, canonical, size, first address and value.
 fn access_allows(place: usize, n: u64) -> bool {
     match place {
-        0 => n == 1 || n == 2 || n == 3,
-        1 => n == 4 || n == 8,
-        2 => n == 0 || n == 1,
-        3 => n == 4 || n == 8,
+        0 => n == 1 || one_of(n, 2, 3),
+        1 => one_of(n, 4, 8),
+        2 => one_of(n, 0, 1),
+        3 => one_of(n, 4, 8),
         _ => true,
     }
 }
 
-// Whether n can be a command's number at a place, counted from 0. Nothing can be where the command has no such number.
-fn allows(command: Command, place: usize, n: u64) -> bool {
+// Whether n can be a command's number at a place, counted from 0. Where the command has no such number, nothing can.
+fn allows(command: Command, place: usize, n: u64) -> bool
+    ensures { λ r. ⌜ (r ≡ true → place ≡ 0 → FirstFits command n) ⌝ }
+{
     match command {
-        Command::Pages => place != 0 || n <= LENT_LIMIT,
+        Command::Pages => {
+            if place == 0 {
+                n <= (LENT_LIMIT as u64)
+            } else {
+                place <= ENTRY_LIMIT
+            }
+        }
         Command::Find => place == 0,
         Command::Load => place < 5 && access_allows(place, n),
         Command::Store => place < 6 && access_allows(place, n),
-        Command::Sum => place < 3 && (place != 0 || n == 4 || n == 8),
+        Command::Sum => {
+            if place == 0 {
+                one_of(n, 4, 8)
+            } else {
+                place < 3
+            }
+        }
     }
 }
 
 // How many numbers a command has at least.
-fn fewest(command: Command) -> usize {
+fn fewest(command: Command) -> usize
+    ensures { λ r. ⌜ 0 < r ⌝ }
+{
     match command {
         Command::Pages => 1,
         Command::Find => 1,
@@ -169,19 +197,21 @@ fn fewest(command: Command) -> usize {
     }
 }
 
-// Reads the fields that follow a line's word, each with the space ahead of it, up to the first that is wrong.
-fn read_numbers(command: Command, fields: &[u8], numbers: &mut [u64; 19]) -> Reading {
+// Reads the fields that follow a line's word, each with the space before it, up to the first that is wrong.
+fn read_numbers(command: Command, fields: &[u8], numbers: &mut [u64; NUMBER_LIMIT]) -> Reading
+    ensures { λ r. ⌜ Numbers command (now (numbers .exit)) (r .count) × (r .whole ≡ true → 0 < r .count) ⌝ }
+{
     let mut count: usize = 0;
     let mut at = 0;
     while at < fields.len() {
-        let start = at + 1;
-        at = find_byte(fields, start, b' ');
         if count == NUMBER_LIMIT {
             return Reading {
                 count,
                 whole: false,
             };
         }
+        let start = at + 1;
+        at = find_byte(fields, start, b' ');
         match read_number(&fields[start..at]) {
             Number::Malformed => return Reading {
                 count,
@@ -217,7 +247,7 @@ fn print_with(text: &[u8], n: u64) {
     io::print_hex(STDOUT_FILENO, n, 1);
 }
 
-fn print_refused_field(line: u64, field: usize) {
+fn print_malformed(line: u64, field: usize) {
     print(b"line ");
     io::print_decimal(STDOUT_FILENO, line);
     print(b", field ");
@@ -233,14 +263,18 @@ fn print_failure(failure: Failure) {
     }
 }
 
-// ---- the lent bytes
+// ---- what is lent
 
-// What is lent at a place: (13 * place + place / 256 + 7) mod 256, in parts that no place makes too large.
-fn lent_byte(place: usize) -> u8 {
+// The byte that is lent at a place, from remainders that no place makes too large.
+fn lent_byte(place: usize) -> u8
+    ensures { λ r. ⌜ r ≡ lentByte place ⌝ }
+{
     ((13 * (place % 256) + place / 256 % 256 + 7) % 256) as u8
 }
 
-fn fill(bytes: &mut [u8]) {
+fn lend_bytes(bytes: &mut [u8])
+    ensures { λ _. ⌜ Fresh (now (bytes .exit)) ⌝ }
+{
     let mut place = 0;
     while place < bytes.len() {
         bytes[place] = lent_byte(place);
@@ -248,7 +282,18 @@ fn fill(bytes: &mut [u8]) {
     }
 }
 
-// Writes each byte that is not as it was lent.
+fn copy_entries(numbers: &[u64; NUMBER_LIMIT], count: usize, pages: &mut [u64])
+    requires { ⌜ (0 < count) × (count ≤ 19) × (count ≤ length (now pages) + 1) ⌝ }
+    ensures { λ _. ⌜ take (count - 1) (now (pages .exit)) ≡ entriesOf (now (numbers .entry)) count ⌝ }
+{
+    let mut i = 1;
+    while i < count {
+        pages[i - 1] = numbers[i];
+        i += 1;
+    }
+}
+
+// Writes each byte that is no longer as it was lent.
 fn print_changes(bytes: &[u8]) {
     let mut place = 0;
     while place < bytes.len() {
@@ -263,7 +308,9 @@ fn print_changes(bytes: &[u8]) {
 
 // ---- answering a line
 
-fn kind(n: u64) -> Kind {
+fn kind(n: u64) -> Kind
+    ensures { λ r. ⌜ (0 < n → n < 4 → kindNumber r ≡ n) ⌝ }
+{
     match n {
         1 => Kind::UserShadow,
         2 => Kind::SupervisorShadow,
@@ -271,6 +318,7 @@ fn kind(n: u64) -> Kind {
     }
 }
 
+// The width of addresses of n bytes.
 fn width(n: u64) -> Width {
     match n {
         4 => Width::Bits32,
@@ -285,7 +333,7 @@ fn size(n: u64) -> Size {
     }
 }
 
-fn access(numbers: &[u64; 19], store: bool) -> Access {
+fn access(numbers: &[u64; NUMBER_LIMIT], store: bool) -> Access {
     let kind = kind(numbers[0]);
     let width = width(numbers[1]);
     let size = size(numbers[3]);
@@ -297,6 +345,28 @@ fn access(numbers: &[u64; 19], store: bool) -> Access {
         size,
         width,
         canonical: numbers[2] == 1,
+    }
+}
+
+fn answer_pages(
+    numbers: &[u64; NUMBER_LIMIT],
+    count: usize,
+    pages: &mut [u64],
+    bytes: &mut [u8],
+) -> PageList
+    requires { ⌜ Numbers Command.Pages (now numbers) count × (0 < count) × (18 ≤ length (now pages)) × (73728 ≤ length (now bytes)) ⌝ }
+    ensures { λ r. ⌜ r ≡ pageListOf (now (numbers .entry)) count ⌝ }
+{
+    let entries = count - 1;
+    let lent = numbers[0] as usize;
+    copy_entries(numbers, count, pages);
+    lend_bytes(&mut bytes[..lent]);
+    let refusal = Listing::of(&pages[..entries], lent).number();
+    print_with(b"refusal ", refusal);
+    PageList {
+        entries,
+        lent,
+        refusal,
     }
 }
 
@@ -330,34 +400,7 @@ fn answer_sum(width: Width, a: u64, b: u64) {
     print_with(b" minus ", width.minus(a, b));
 }
 
-fn copy_entries(numbers: &[u64; 19], pages: &mut [u64], entries: usize) {
-    let mut i = 0;
-    while i < entries {
-        pages[i] = numbers[i + 1];
-        i += 1;
-    }
-}
-
-fn answer_pages(
-    numbers: &[u64; 19],
-    count: usize,
-    pages: &mut [u64],
-    bytes: &mut [u8],
-) -> PageList {
-    let entries = count - 1;
-    let lent = numbers[0] as usize;
-    copy_entries(numbers, pages, entries);
-    fill(&mut bytes[..lent]);
-    let refusal = Listing::of(&pages[..entries], lent).number();
-    print_with(b"refusal ", refusal);
-    PageList {
-        entries,
-        lent,
-        refusal,
-    }
-}
-
-// Whether a command is answered by the last page list, and so not done where that was refused.
+// Whether a command goes by the last page list, so that a refusal of that is its answer.
 fn asks_pages(command: Command) -> bool {
     match command {
         Command::Pages => false,
@@ -371,11 +414,14 @@ fn asks_pages(command: Command) -> bool {
 fn answer(
     list: PageList,
     command: Command,
-    numbers: &[u64; 19],
+    numbers: &[u64; NUMBER_LIMIT],
     count: usize,
     pages: &mut [u64],
     bytes: &mut [u8],
-) -> PageList {
+) -> PageList
+    requires { ⌜ Held list (now pages) (now bytes) × Numbers command (now numbers) count × (0 < count) × (18 ≤ length (now pages)) × (73728 ≤ length (now bytes)) ⌝ }
+    ensures { λ r. ⌜ Held r (now (pages .exit)) (now (bytes .exit)) ⌝ }
+{
     let entries = list.entries;
     let lent = list.lent;
     if asks_pages(command) && list.refusal != 0 {
@@ -397,6 +443,8 @@ fn answer(
     list
 }
 
+// ---- the script
+
 fn is_skipped(line: &[u8]) -> bool {
     line.len() == 0 || line[0] == b'#'
 }
@@ -407,29 +455,35 @@ fn answer_line(
     line_number: u64,
     pages: &mut [u64],
     bytes: &mut [u8],
-) -> PageList {
+) -> PageList
+    requires { ⌜ Held list (now pages) (now bytes) × (18 ≤ length (now pages)) × (73728 ≤ length (now bytes)) ⌝ }
+    ensures { λ r. ⌜ Held r (now (pages .exit)) (now (bytes .exit)) ⌝ }
+{
     if is_skipped(line) {
         return list;
     }
     let end = find_byte(line, 0, b' ');
     let Word::Known(command) = read_word(&line[..end]) else {
-        print_refused_field(line_number, 1);
+        print_malformed(line_number, 1);
         return list;
     };
-    let mut numbers = [0u64; 19];
+    let mut numbers = [0; NUMBER_LIMIT];
     let reading = read_numbers(command, &line[end..], &mut numbers);
+    let count = reading.count;
     if !reading.whole {
-        print_refused_field(line_number, reading.count + 2);
+        print_malformed(line_number, count + 2);
         return list;
     }
     print(line);
     print(b" -> ");
-    let next = answer(list, command, &numbers, reading.count, pages, bytes);
+    let next = answer(list, command, &numbers, count, pages, bytes);
     print(b"\n");
     next
 }
 
-fn run(input: &[u8], pages: &mut [u64], bytes: &mut [u8]) {
+fn run(input: &[u8], pages: &mut [u64], bytes: &mut [u8])
+    requires { ⌜ (length (now input) ≤ 262144) × (18 ≤ length (now pages)) × (73728 ≤ length (now bytes)) ⌝ }
+{
     let mut list = PageList {
         entries: 0,
         lent: 0,
@@ -452,10 +506,10 @@ fn input_buffer() -> [u8; 262145]
     [0; 262145]
 }
 
-fn lent_buffer() -> [u8; 73728]
+fn lent_buffer() -> [u8; LENT_LIMIT]
     ensures { λ r. ⌜ 73728 ≡ length r ⌝ }
 {
-    [0; 73728]
+    [0; LENT_LIMIT]
 }
 
 fn main() {
@@ -465,7 +519,7 @@ fn main() {
         print(b"input too long\n");
         return;
     }
-    let mut pages = [0u64; 18];
+    let mut pages = [0; ENTRY_LIMIT];
     let mut bytes = lent_buffer();
     run(&input[..n], &mut pages, &mut bytes);
 }

@@ -4,52 +4,52 @@ use Rattle.memory_script.proofs.copy_entries.Reads as reads
 use Rattle.memory_script.proofs.copy_entries.Lts as lts
 
 abbrev Inv-loop : tie.InvT-loop
-Inv-loop numbers pages₀ entries i₀ pages i = ?
+Inv-loop numbers count pages₀ i₀ pages i = ?
 
 abbrev μ-loop : tie.MeasureT-loop
-μ-loop numbers pages₀ entries i₀ pages i = ?
+μ-loop numbers count pages₀ i₀ pages i = ?
 
--- src/main.rt:335:5
+-- src/main.rt:280:5
 loop-holds : tie.Need-loop-holds Inv-loop μ-loop
 loop-holds c = ?
 
--- src/main.rt:336:28
-add-pages : tie.Need-add-pages Inv-loop μ-loop
-add-pages c = ?
-
--- src/main.rt:336:20
+-- src/main.rt:281:24
 mul-pages : tie.Need-mul-pages Inv-loop μ-loop
 mul-pages c = ?
 
--- src/main.rt:336:20
+-- src/main.rt:281:24
 element-copy-out-pages : tie.Need-element-copy-out-pages Inv-loop μ-loop
 element-copy-out-pages c = ?
 
--- src/main.rt:336:9
+-- src/main.rt:281:15
+sub-pages : tie.Need-sub-pages Inv-loop μ-loop
+sub-pages c = ?
+
+-- src/main.rt:281:9
 mul-pages-2 : tie.Need-mul-pages-2 Inv-loop μ-loop
 mul-pages-2 c = ?
 
--- src/main.rt:336:9
+-- src/main.rt:281:9
 slice-write-pages : tie.Need-slice-write-pages Inv-loop μ-loop
 slice-write-pages c = ?
 
--- src/main.rt:337:9
+-- src/main.rt:282:9
 add-i : tie.Need-add-i Inv-loop μ-loop
 add-i c = ?
 
--- src/main.rt:335:5
+-- src/main.rt:280:5
 loop-less : tie.Need-loop-less Inv-loop μ-loop
 loop-less c = ?
 
--- src/main.rt:335:5
+-- src/main.rt:280:5
 loop-again : tie.Need-loop-again Inv-loop μ-loop
 loop-again c = ?
 
--- src/main.rt:333:1
+-- src/main.rt:275:1
 same-length : tie.Need-same-length Inv-loop μ-loop
 same-length c = ?
 
--- src/main.rt:333:1
+-- src/main.rt:275:1
 returns : tie.Need-returns Inv-loop μ-loop
 returns c = ?
 
@@ -60,9 +60,9 @@ copy-entries-spec =
     Inv-loop
     μ-loop
     loop-holds
-    add-pages
     mul-pages
     element-copy-out-pages
+    sub-pages
     mul-pages-2
     slice-write-pages
     add-i

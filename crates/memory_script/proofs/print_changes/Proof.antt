@@ -12,51 +12,51 @@ Inv-loop bytes place₀ t4 t5 place = ?
 abbrev μ-loop : tie.MeasureT-loop
 μ-loop bytes place₀ t4 t5 place = ?
 
--- src/main.rt:254:5
+-- src/main.rt:289:5
 loop-holds : tie.Need-loop-holds Inv-loop μ-loop
 loop-holds c = ?
 
--- src/main.rt:255:20
+-- src/main.rt:290:20
 shared-slice-read-byte : tie.Need-shared-slice-read-byte Inv-loop μ-loop
 shared-slice-read-byte c = ?
 
--- src/main.rt:256:20
+-- src/main.rt:291:20
 lent-byte-requires : tie.Need-lent-byte-requires Inv-loop μ-loop
 lent-byte-requires c κs = ?
 
--- src/main.rt:257:24
+-- src/main.rt:292:24
 slice-aggregate-print-with : tie.Need-slice-aggregate-print-with Inv-loop μ-loop
 slice-aggregate-print-with c = ?
 
--- src/main.rt:257:13
+-- src/main.rt:292:13
 print-with-requires : tie.Need-print-with-requires Inv-loop μ-loop
 print-with-requires c κs = ?
 
--- src/main.rt:258:24
+-- src/main.rt:293:24
 slice-aggregate-print-with-2 : tie.Need-slice-aggregate-print-with-2 Inv-loop μ-loop
 slice-aggregate-print-with-2 c = ?
 
--- src/main.rt:258:30
+-- src/main.rt:293:30
 wide-requires : tie.Need-wide-requires Inv-loop μ-loop
 wide-requires c κs = ?
 
--- src/main.rt:258:13
+-- src/main.rt:293:13
 print-with-requires-2 : tie.Need-print-with-requires-2 Inv-loop μ-loop
 print-with-requires-2 c κs = ?
 
--- src/main.rt:260:9
+-- src/main.rt:295:9
 add-place : tie.Need-add-place Inv-loop μ-loop
 add-place c = ?
 
--- src/main.rt:254:5
+-- src/main.rt:289:5
 loop-less : tie.Need-loop-less Inv-loop μ-loop
 loop-less c = ?
 
--- src/main.rt:254:5
+-- src/main.rt:289:5
 loop-again : tie.Need-loop-again Inv-loop μ-loop
 loop-again c = ?
 
--- src/main.rt:252:1
+-- src/main.rt:287:1
 returns : tie.Need-returns Inv-loop μ-loop
 returns c = ?
 

@@ -10,51 +10,51 @@ Inv-loop field value₀ i₀ value i = ?
 abbrev μ-loop : tie.MeasureT-loop
 μ-loop field value₀ i₀ value i = ?
 
--- src/main.rt:121:9
+-- src/main.rt:128:9
 returns : tie.Need-returns Inv-loop μ-loop
 returns c = ?
 
--- src/main.rt:124:9
+-- src/main.rt:131:9
 returns-2 : tie.Need-returns-2 Inv-loop μ-loop
 returns-2 c = ?
 
--- src/main.rt:128:5
+-- src/main.rt:135:5
 loop-holds : tie.Need-loop-holds Inv-loop μ-loop
 loop-holds c = ?
 
--- src/main.rt:129:26
+-- src/main.rt:136:26
 shared-slice-read-digit : tie.Need-shared-slice-read-digit Inv-loop μ-loop
 shared-slice-read-digit c = ?
 
--- src/main.rt:129:13
+-- src/main.rt:136:13
 digit-requires : tie.Need-digit-requires Inv-loop μ-loop
 digit-requires c κs = ?
 
--- src/main.rt:131:13
+-- src/main.rt:138:13
 returns-3 : tie.Need-returns-3 Inv-loop μ-loop
 returns-3 c = ?
 
--- src/main.rt:133:17
+-- src/main.rt:140:17
 mul-value : tie.Need-mul-value Inv-loop μ-loop
 mul-value c = ?
 
--- src/main.rt:133:17
+-- src/main.rt:140:17
 add-value : tie.Need-add-value Inv-loop μ-loop
 add-value c = ?
 
--- src/main.rt:134:9
+-- src/main.rt:141:9
 add-i : tie.Need-add-i Inv-loop μ-loop
 add-i c = ?
 
--- src/main.rt:128:5
+-- src/main.rt:135:5
 loop-less : tie.Need-loop-less Inv-loop μ-loop
 loop-less c = ?
 
--- src/main.rt:128:5
+-- src/main.rt:135:5
 loop-again : tie.Need-loop-again Inv-loop μ-loop
 loop-again c = ?
 
--- src/main.rt:119:1
+-- src/main.rt:124:1
 returns-4 : tie.Need-returns-4 Inv-loop μ-loop
 returns-4 c = ?
 

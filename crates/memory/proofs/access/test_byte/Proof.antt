@@ -1,54 +1,40 @@
+-- `test_byte` meets its contract: each way through the code is one case of `byteTest`. Assumes nothing.
 use mathlib.Core.Path.{sym, _∙_}
 use borrow.Author.Tests.{eq-eqb, ne-eqb}
 use borrow.Author.Needs.{needs}
 use Rattle.memory.proofs.access.test_byte.Statement.{statement}
 use Rattle.memory.proofs.access.test_byte.Tie as tie
-use Rattle.memory.proofs.access.test_byte.Reads as reads
-use Rattle.memory.proofs.access.test_byte.Lts as lts
-use Rattle.memory.proofs.address.canonical.Reads as canonical-reads
-use Rattle.memory.proofs.pages.find.Reads as find-reads
 
--- src/access.rt:99:16
 enum-told : tie.Need-enum-told
 enum-told c = search needs
 
--- src/access.rt:99:16
 canonical-requires : tie.Need-canonical-requires
 canonical-requires c κs = search needs
 
--- src/access.rt:105:23
 enum-known-asked : tie.Need-enum-known-asked
 enum-known-asked c = search needs
 
--- src/access.rt:105:38
 find-requires : tie.Need-find-requires
 find-requires c κs = search needs
 
--- src/access.rt:106:46
 enum-told-2 : tie.Need-enum-told-2
 enum-told-2 c = search needs
 
--- src/access.rt:107:22
 enum-known-found : tie.Need-enum-known-found
 enum-known-found c = search needs
 
--- src/access.rt:94:1
 returns : tie.Need-returns
 returns c = rw (c .before .before .enum-told .given .1, sym (c .before .canonical .ensures) ∙ c .if1 .taken)
 
--- src/access.rt:94:1
 returns-2 : tie.Need-returns-2
 returns-2 c = rw (c .before .before .enum-told .given .1, sym (c .before .canonical .ensures) ∙ c .if1 .left)
 
--- src/access.rt:94:1
 returns-3 : tie.Need-returns-3
 returns-3 c = rw (c .before .before .before .before .asked .given .1, sym (c .before .before .find .ensures) ∙ c .enum-told2 .given .1)
 
--- src/access.rt:94:1
 returns-4 : tie.Need-returns-4
 returns-4 c = rw (c .before .before .before .before .before .before .asked .given .1, sym (c .before .before .before .before .find .ensures) ∙ c .before .before .found .given .1, eq-eqb _ _ (c .if2 .taken))
 
--- src/access.rt:94:1
 returns-5 : tie.Need-returns-5
 returns-5 c = rw (c .before .before .before .before .before .before .asked .given .1, sym (c .before .before .before .before .find .ensures) ∙ c .before .before .found .given .1, ne-eqb _ _ (c .if2 .left))
 

@@ -1,16 +1,13 @@
+-- `canonical` meets its contract: the two tests are those of the definition. Assumes nothing.
 use borrow.Author.Tests.{eq-eqb, ne-eqb}
 use Rattle.memory.specs.Address.{canonical}
 use Rattle.memory.proofs.address.canonical.Statement.{statement}
 use Rattle.memory.proofs.address.canonical.Tie as tie
-use Rattle.memory.proofs.address.canonical.Reads as reads
-use Rattle.memory.proofs.address.canonical.Lts as lts
 
--- src/address.rt:38:1
 returns : tie.Need-returns
 unfolding canonical
 returns c = rw (eq-eqb _ _ (c .if1 .taken))
 
--- src/address.rt:38:1
 returns-2 : tie.Need-returns-2
 unfolding canonical
 returns-2 c = rw (ne-eqb _ _ (c .if1 .left))

@@ -1,18 +1,14 @@
+-- `number` meets its contract. The invariant is `Built`: the value holds the bytes from `left` on, and is small enough for one more. The measure is `left`. Assumes nothing.
 use Prim.Native.Nat.{ℕ, _-_, _^_, _<_}
-use Rattle.memory.specs.Access.{byteIn}
+use mathlib.Core.Path.{_∙_, ap}
 use native.Mathlib.Omega.{arith}
-use borrow.Author.Needs.{needs}
-use mathlib.Core.Path.{sym, _∙_, ap}
 use lib.ListN.{length}
+use borrow.Author.Needs.{needs}
+use Rattle.memory.specs.Access.{byteIn}
 use Rattle.memory.specs.Pages.{spot}
 use Rattle.memory.proofs.Numbers.{Built, room, built-none, built-all, built-more}
 use Rattle.memory.proofs.load.number.Statement.{statement}
 use Rattle.memory.proofs.load.number.Tie as tie
-use Rattle.memory.proofs.load.number.Reads as reads
-use Rattle.memory.proofs.load.number.Lts as lts
-use Rattle.memory.proofs.address.Width.plus.Reads as plus-reads
-use Rattle.memory.proofs.load.byte_at.Reads as byte-at-reads
-use Rattle.memory.proofs.load.wide.Reads as wide-reads
 
 abbrev Inv-loop : tie.InvT-loop
 Inv-loop pages bytes width first n value₀ left₀ value left = Built (spot pages (length bytes)) bytes width first n value left
@@ -20,23 +16,18 @@ Inv-loop pages bytes width first n value₀ left₀ value left = Built (spot pag
 abbrev μ-loop : tie.MeasureT-loop
 μ-loop pages bytes width first n value₀ left₀ value left = left
 
--- src/load.rt:44:5
 loop-holds : tie.Need-loop-holds Inv-loop μ-loop
 loop-holds c = built-none _ _ _ _ _
 
--- src/load.rt:45:9
 sub-left : tie.Need-sub-left Inv-loop μ-loop
 sub-left c = omega arith
 
--- src/load.rt:46:42
 plus-requires : tie.Need-plus-requires Inv-loop μ-loop
 plus-requires c κs = search needs
 
--- src/load.rt:46:13
 byte-at-requires : tie.Need-byte-at-requires Inv-loop μ-loop
 byte-at-requires c κs = search needs
 
--- src/load.rt:47:17
 small : (c : tie.In-loop Inv-loop μ-loop) → c .before .loop .value < 2 ^ 56
 small c =
     let at-loop = c .before in
@@ -46,19 +37,15 @@ small c =
 mul-value : tie.Need-mul-value Inv-loop μ-loop
 mul-value c = omega (arith, small (c .before .before))
 
--- src/load.rt:47:31
 wide-requires : tie.Need-wide-requires Inv-loop μ-loop
 wide-requires c κs = search needs
 
--- src/load.rt:47:17
 add-value : tie.Need-add-value Inv-loop μ-loop
 add-value c = omega (arith, small (c .before .before .before), c .before .byte-at .ok)
 
--- src/load.rt:44:5
 loop-less : tie.Need-loop-less Inv-loop μ-loop
 loop-less c = omega arith
 
--- src/load.rt:44:5
 loop-again : tie.Need-loop-again Inv-loop μ-loop
 loop-again c =
     let args = c .before .before .before .before .before .before .before .args in
@@ -67,7 +54,6 @@ loop-again c =
     ∙ c .before .byte-at .ensures
     ∙ ap (λ (a : ℕ). byteIn (args .bytes .now) (spot (args .pages .now) (length (args .bytes .now)) a)) (c .before .before .plus .ensures))
 
--- src/load.rt:38:1
 returns : tie.Need-returns Inv-loop μ-loop
 returns c = built-all _ _ _ _ _ _ _ (c .loop-test .left) (c .before .loop .inv)
 

@@ -1,16 +1,15 @@
-use Prim.Native.Nat.{_-_}
+-- `any_entry` meets its contract. The invariant: the whole search is the search from here on. The measure is what is left of the list. Assumes nothing.
+use Prim.Native.Nat.{_-_, _+_}
+use mathlib.Core.Path.{_≡_, refl}
+use mathlib.Core.Bool.{_||_}
 use native.Mathlib.Omega.{arith}
-use borrow.Author.Needs.{needs}
-use mathlib.Core.Path.{_≡_, refl, sym, _∙_}
 use lib.ListN.{length, drop}
+use borrow.Author.Needs.{needs}
 use Rattle.memory.specs.Pages.{anyEntry}
 use Rattle.memory.specs.Search.{meets}
 use Rattle.memory.proofs.Steps.{any-turn, any-end}
 use Rattle.memory.proofs.pages.any_entry.Statement.{statement}
 use Rattle.memory.proofs.pages.any_entry.Tie as tie
-use Rattle.memory.proofs.pages.any_entry.Reads as reads
-use Rattle.memory.proofs.pages.any_entry.Lts as lts
-use Rattle.memory.proofs.pages.meets.Reads as meets-reads
 
 abbrev Inv-loop : tie.InvT-loop
 Inv-loop pages sought i₀ i = anyEntry (meets sought) pages ≡ anyEntry (meets sought) (drop i pages)
@@ -18,43 +17,36 @@ Inv-loop pages sought i₀ i = anyEntry (meets sought) pages ≡ anyEntry (meets
 abbrev μ-loop : tie.MeasureT-loop
 μ-loop pages sought i₀ i = length pages - i
 
--- src/pages.rt:74:5
 loop-holds : tie.Need-loop-holds Inv-loop μ-loop
 loop-holds c = refl
 
--- src/pages.rt:75:26
 mul-meets : tie.Need-mul-meets Inv-loop μ-loop
 mul-meets c = search needs
 
--- src/pages.rt:75:26
 shared-slice-read-meets : tie.Need-shared-slice-read-meets Inv-loop μ-loop
 shared-slice-read-meets c = search needs
 
--- src/pages.rt:75:12
 meets-requires : tie.Need-meets-requires Inv-loop μ-loop
 meets-requires c κs = search needs
 
--- src/pages.rt:76:13
-returns : tie.Need-returns Inv-loop μ-loop
-returns c =
-    let at-loop = c .before .before .before .before in
-    rw (at-loop .loop .inv, any-turn _ (at-loop .loop .i) (c .before .before .before .loop-test .taken) _, sym (c .before .meets .ensures) ∙ c .if1 .taken)
+-- a turn: this entry, or one of the rest
+turned : (c : tie.After-meets Inv-loop μ-loop)
+    → anyEntry (meets (c .before .before .before .before .before .args .sought)) (c .before .before .before .before .before .args .pages .now)
+    ≡ (c .meets .result || anyEntry (meets (c .before .before .before .before .before .args .sought)) (drop (c .before .before .before .loop .i + 1) (c .before .before .before .before .before .args .pages .now)))
+turned c = rw (c .before .before .before .loop .inv, any-turn _ (c .before .before .before .loop .i) (c .before .before .loop-test .taken) _, ← c .meets .ensures)
 
--- src/pages.rt:78:9
+returns : tie.Need-returns Inv-loop μ-loop
+returns c = rw (turned (c .before), c .if1 .taken)
+
 add-i : tie.Need-add-i Inv-loop μ-loop
 add-i c = omega arith
 
--- src/pages.rt:74:5
 loop-less : tie.Need-loop-less Inv-loop μ-loop
 loop-less c = omega arith
 
--- src/pages.rt:74:5
 loop-again : tie.Need-loop-again Inv-loop μ-loop
-loop-again c =
-    let at-loop = c .before .before .before .before in
-    rw (at-loop .loop .inv, any-turn _ (at-loop .loop .i) (c .before .before .before .loop-test .taken) _, sym (c .before .meets .ensures) ∙ c .if1 .left)
+loop-again c = rw (turned (c .before), c .if1 .left)
 
--- src/pages.rt:70:1
 returns-2 : tie.Need-returns-2 Inv-loop μ-loop
 returns-2 c = rw (c .before .loop .inv, any-end _ _ (c .loop-test .left) _)
 

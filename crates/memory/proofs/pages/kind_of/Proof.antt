@@ -1,15 +1,12 @@
-use Rattle.memory.specs.Pages.{kindOf}
+-- `kind_of` meets its contract, by its definition. Assumes nothing.
 use borrow.Author.Needs.{needs}
+use Rattle.memory.specs.Pages.{kindOf}
 use Rattle.memory.proofs.pages.kind_of.Statement.{statement}
 use Rattle.memory.proofs.pages.kind_of.Tie as tie
-use Rattle.memory.proofs.pages.kind_of.Reads as reads
-use Rattle.memory.proofs.pages.kind_of.Lts as lts
 
--- src/pages.rt:53:5
 rem-result : tie.Need-rem-result
 rem-result c = search needs
 
--- src/pages.rt:50:1
 returns : tie.Need-returns
 unfolding kindOf
 returns c = search needs

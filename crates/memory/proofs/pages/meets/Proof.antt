@@ -1,61 +1,44 @@
-use mathlib.Core.Path.{_∙_, ap, sym}
-use mathlib.Core.Bool.{not}
-use borrow.Author.Tests.{eq-eqb}
+-- `meets` meets its contract: each way through the code is one case of what is sought. Assumes nothing.
+use mathlib.Core.Path.{_∙_, sym}
+use borrow.Author.Needs.{needs}
 use Rattle.memory.specs.Pages.{badKind, badAddress, onPage, kindOf}
 use Rattle.memory.proofs.KindTests.{kind-zero, kind-above}
-use borrow.Author.Needs.{needs}
 use Rattle.memory.proofs.pages.meets.Statement.{statement}
 use Rattle.memory.proofs.pages.meets.Tie as tie
-use Rattle.memory.proofs.pages.meets.Reads as reads
-use Rattle.memory.proofs.pages.meets.Lts as lts
-use Rattle.memory.proofs.address.canonical.Reads as canonical-reads
-use Rattle.memory.proofs.pages.kind_of.Reads as kind-of-reads
-use Rattle.memory.proofs.pages.page_of.Reads as page-of-reads
 
--- src/pages.rt:61:17
 enum-told : tie.Need-enum-told
 enum-told c = search needs
 
--- src/pages.rt:61:17
 kind-of-requires : tie.Need-kind-of-requires
 kind-of-requires c κs = search needs
 
--- src/pages.rt:64:58
 enum-told-2 : tie.Need-enum-told-2
 enum-told-2 c = search needs
 
--- src/pages.rt:64:58
 page-of-requires : tie.Need-page-of-requires
 page-of-requires c κs = search needs
 
--- src/pages.rt:64:32
 canonical-requires : tie.Need-canonical-requires
 canonical-requires c κs = search needs
 
--- src/pages.rt:65:24
 enum-known-sought : tie.Need-enum-known-sought
 enum-known-sought c = search needs
 
--- src/pages.rt:65:33
 page-of-requires-2 : tie.Need-page-of-requires-2
 page-of-requires-2 c κs = search needs
 
--- src/pages.rt:56:1
 returns : tie.Need-returns
 unfolding badKind
 returns c = rw (c .before .before .enum-told .given .1) (kind-zero (kindOf (c .before .before .before .before .args .entry)) (sym (c .before .kind-of .ensures) ∙ c .if1 .taken))
 
--- src/pages.rt:56:1
 returns-2 : tie.Need-returns-2
 unfolding badKind
 returns-2 c = rw (c .before .before .enum-told .given .1, c .before .kind-of .ensures) (kind-above (kindOf (c .before .before .before .before .args .entry)) (λ e. c .if1 .left (c .before .kind-of .ensures ∙ e)))
 
--- src/pages.rt:56:1
 returns-3 : tie.Need-returns-3
 unfolding badAddress
 returns-3 c = rw (c .before .before .enum-told2 .given .1, c .canonical .ensures, c .before .page-of .ensures)
 
--- src/pages.rt:56:1
 returns-4 : tie.Need-returns-4
 unfolding onPage
 returns-4 c = rw (c .before .before .sought .given .1, c .page-of2 .ensures)

@@ -1,61 +1,47 @@
-use Rattle.memory.proofs.Parts.{put-in}
-use native.Mathlib.Omega.{arith}
+-- `put` meets its contract. The page of the place is lent whole, and a byte set in it is that byte set in the whole. Assumes nothing.
 use mathlib.Core.Path.{sym, _∙_}
-use Rattle.memory.proofs.Lookup.{spot-inside, spot-page}
+use native.Mathlib.Omega.{arith}
 use borrow.Author.Needs.{needs}
+use Rattle.memory.proofs.Parts.{put-in}
+use Rattle.memory.proofs.Lookup.{spot-page}
 use Rattle.memory.proofs.store.put.Statement.{statement}
 use Rattle.memory.proofs.store.put.Tie as tie
-use Rattle.memory.proofs.store.put.Reads as reads
-use Rattle.memory.proofs.store.put.Lts as lts
-use Rattle.memory.proofs.pages.find.Reads as find-reads
-use Rattle.memory.proofs.store.put_in_page.Reads as put-in-page-reads
 
--- src/store.rt:26:11
 find-requires : tie.Need-find-requires
 find-requires c κs = search needs
 
 enum-told : tie.Need-enum-told
 enum-told c = search needs
 
--- src/store.rt:28:21
 enum-known-place : tie.Need-enum-known-place
 enum-known-place c = search needs
 
--- src/store.rt:30:25
 sub-start : tie.Need-sub-start
 sub-start c = search needs
 
--- src/store.rt:31:23
 add-end : tie.Need-add-end
 add-end c =
     omega (arith, spot-page _ _ _ _ _ (sym (c .before .before .before .find .ensures) ∙ c .before .place .given .1))
 
--- src/store.rt:32:25
 sub-put-in-page : tie.Need-sub-put-in-page
 sub-put-in-page c = search needs
 
--- src/store.rt:32:25
 part-put-in-page-start : tie.Need-part-put-in-page-start
 part-put-in-page-start c = search needs
 
--- src/store.rt:32:25
 part-put-in-page-end : tie.Need-part-put-in-page-end
 part-put-in-page-end c =
     spot-page _ _ _ _ _ (sym (c .before .before .before .find .ensures) ∙ c .before .place .given .1)
 
--- src/store.rt:32:13
 put-in-page-requires : tie.Need-put-in-page-requires
 put-in-page-requires c κs = search needs
 
--- src/store.rt:23:1
 returns : tie.Need-returns
 returns c = rw (sym (c .before .before .find .ensures) ∙ c .enum-told .given .1)
 
--- src/store.rt:23:1
 same-length : tie.Need-same-length
 same-length c = search needs
 
--- src/store.rt:23:1
 returns-2 : tie.Need-returns-2
 returns-2 c =
     let led = sym (c .before .before .before .before .before .before .before .find .ensures) ∙ c .before .before .before .before .before .place .given .1 in

@@ -1,24 +1,19 @@
-use lib.Seq.{set-out}
+-- `put_in_page` meets its contract: past the end of a list there is nothing to set. Assumes nothing.
 use mathlib.Core.Path.{sym}
+use lib.Seq.{set-out}
 use borrow.Author.Needs.{needs}
 use Rattle.memory.proofs.store.put_in_page.Statement.{statement}
 use Rattle.memory.proofs.store.put_in_page.Tie as tie
-use Rattle.memory.proofs.store.put_in_page.Reads as reads
-use Rattle.memory.proofs.store.put_in_page.Lts as lts
 
--- src/store.rt:18:9
 slice-write-page : tie.Need-slice-write-page
 slice-write-page c = search needs
 
--- src/store.rt:14:1
 same-length : tie.Need-same-length
 same-length c = search needs
 
--- src/store.rt:14:1
 returns : tie.Need-returns
 returns c = search needs
 
--- src/store.rt:14:1
 returns-2 : tie.Need-returns-2
 returns-2 c = sym (set-out _ _ _ (c .if1 .left))
 

@@ -1,8 +1,8 @@
-use Prim.Native.Nat.{ℕ}
+-- `write` meets its contract. The invariant: the whole write is the write from here on, and no byte is added or lost. The measure is what is left. Assumes nothing.
+use mathlib.Core.Path.{_≡_, refl, sym, _∙_}
 use native.Mathlib.Omega.{arith}
-use borrow.Author.Needs.{needs}
-use mathlib.Core.Path.{_≡_, refl, sym, _∙_, ap}
 use lib.ListN.{length}
+use borrow.Author.Needs.{needs}
 use Rattle.memory.specs.Address.{wrapped}
 use Rattle.memory.specs.Pages.{spot}
 use Rattle.memory.specs.Access.{write}
@@ -10,11 +10,6 @@ use Rattle.memory.proofs.Steps.{write-turn, write-end}
 use Rattle.memory.proofs.Parts.{length-put}
 use Rattle.memory.proofs.store.write.Statement.{statement}
 use Rattle.memory.proofs.store.write.Tie as tie
-use Rattle.memory.proofs.store.write.Reads as reads
-use Rattle.memory.proofs.store.write.Lts as lts
-use Rattle.memory.proofs.address.Width.plus.Reads as plus-reads
-use Rattle.memory.proofs.address.Width.wrap.Reads as wrap-reads
-use Rattle.memory.proofs.store.put.Reads as put-reads
 
 abbrev Inv-loop : tie.InvT-loop
 Inv-loop pages bytes₀ width first n value address₀ rest₀ left₀ bytes address rest left = (write (spot pages (length bytes₀)) width (wrapped width first) n value bytes₀ ≡ write (spot pages (length bytes₀)) width address left rest bytes) × (length bytes ≡ length bytes₀)
@@ -22,35 +17,27 @@ Inv-loop pages bytes₀ width first n value address₀ rest₀ left₀ bytes add
 abbrev μ-loop : tie.MeasureT-loop
 μ-loop pages bytes₀ width first n value address₀ rest₀ left₀ bytes address rest left = left
 
--- src/store.rt:42:9
 wrap-requires : tie.Need-wrap-requires Inv-loop μ-loop
 wrap-requires c κs = search needs
 
--- src/store.rt:45:5
 loop-holds : tie.Need-loop-holds Inv-loop μ-loop
 loop-holds c = (rw (c .wrap .ensures), refl)
 
--- src/store.rt:46:36
 cast-put : tie.Need-cast-put Inv-loop μ-loop
 cast-put c = search needs
 
--- src/store.rt:46:9
 put-requires : tie.Need-put-requires Inv-loop μ-loop
 put-requires c κs = search needs
 
--- src/store.rt:47:9
 plus-requires : tie.Need-plus-requires Inv-loop μ-loop
 plus-requires c κs = search needs
 
--- src/store.rt:49:9
 sub-left : tie.Need-sub-left Inv-loop μ-loop
 sub-left c = omega arith
 
--- src/store.rt:45:5
 loop-less : tie.Need-loop-less Inv-loop μ-loop
 loop-less c = omega arith
 
--- src/store.rt:45:5
 loop-again : tie.Need-loop-again Inv-loop μ-loop
 loop-again c =
     let inv = c .before .before .before .before .before .before .loop .inv in (
@@ -58,11 +45,9 @@ loop-again c =
       rw (c .before .before .before .put .ensures, length-put) (inv .1),
     )
 
--- src/store.rt:39:1
 same-length : tie.Need-same-length Inv-loop μ-loop
 same-length c = c .before .loop .inv .1
 
--- src/store.rt:39:1
 returns : tie.Need-returns Inv-loop μ-loop
 returns c = sym (c .before .loop .inv .0 ∙ write-end _ (c .loop-test .left) _ _ _ _ _)
 

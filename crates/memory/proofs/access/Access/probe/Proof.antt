@@ -1,44 +1,31 @@
+-- `Access::probe` meets its contract: a byte that is not canonical decides first, then the pages. Assumes nothing.
 use mathlib.Core.Path.{sym, _∙_, ap}
 use mathlib.Core.Bool.{not}
+use borrow.Author.Needs.{needs}
 use Rattle.memory.specs.Access.{probe, listedBytes}
 use Rattle.memory.proofs.Answers.{blocked-first, ready-next}
-use borrow.Author.Needs.{needs}
 use Rattle.memory.proofs.access.Access.probe.Statement.{statement}
 use Rattle.memory.proofs.access.Access.probe.Tie as tie
-use Rattle.memory.proofs.access.Access.probe.Reads as reads
-use Rattle.memory.proofs.access.Access.probe.Lts as lts
-use Rattle.memory.proofs.access.Access.canonical_bytes.Reads as canonical-bytes-reads
-use Rattle.memory.proofs.access.Kind.number.Reads as number-reads
-use Rattle.memory.proofs.access.Reach.is_ready.Reads as is-ready-reads
-use Rattle.memory.proofs.access.Size.bytes.Reads as bytes-reads
-use Rattle.memory.proofs.access.test_bytes.Reads as test-bytes-reads
 
--- src/access.rt:153:13
 canonical-bytes-requires : tie.Need-canonical-bytes-requires
 canonical-bytes-requires c κs = search needs
 
--- src/access.rt:154:13
 is-ready-requires : tie.Need-is-ready-requires
 is-ready-requires c κs = search needs
 
--- src/access.rt:155:13
 returns : tie.Need-returns
 unfolding probe
 returns c = rw (← c .before .before .canonical-bytes .ensures) (sym (blocked-first _ _ (ap not (sym (c .before .is-ready .ensures)) ∙ c .if1 .taken)))
 
--- src/access.rt:160:35
 number-requires : tie.Need-number-requires
 number-requires c κs = search needs
 
--- src/access.rt:161:59
 bytes-requires : tie.Need-bytes-requires
 bytes-requires c κs = search needs
 
--- src/access.rt:161:9
 test-bytes-requires : tie.Need-test-bytes-requires
 test-bytes-requires c κs = search needs
 
--- src/access.rt:150:5
 returns-2 : tie.Need-returns-2
 unfolding probe listedBytes
 returns-2 c =

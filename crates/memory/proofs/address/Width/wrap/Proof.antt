@@ -1,25 +1,20 @@
+-- `Width::wrap` meets its contract: a remainder at 32 bits, and at 64 bits the number itself, which fits. Assumes nothing.
 use native.Mathlib.Omega.{arith}
-use Rattle.memory.specs.Address.{wrapped}
 use borrow.Author.Needs.{needs}
+use Rattle.memory.specs.Address.{wrapped}
 use Rattle.memory.proofs.address.Width.wrap.Statement.{statement}
 use Rattle.memory.proofs.address.Width.wrap.Tie as tie
-use Rattle.memory.proofs.address.Width.wrap.Reads as reads
-use Rattle.memory.proofs.address.Width.wrap.Lts as lts
 
--- src/address.rt:17:30
 enum-told : tie.Need-enum-told
 enum-told c = search needs
 
--- src/address.rt:18:30
 enum-told-2 : tie.Need-enum-told-2
 enum-told-2 c = search needs
 
--- src/address.rt:13:5
 returns : tie.Need-returns
 unfolding wrapped
 returns c = rw (c .enum-told .given .1)
 
--- src/address.rt:13:5
 returns-2 : tie.Need-returns-2
 unfolding wrapped
 returns-2 c = rw (c .enum-told2 .given .1) (omega arith)

@@ -1,15 +1,11 @@
+-- `Listing::of` meets its contract: at each return the rules before are kept, and this one is broken or none is. Assumes nothing.
 use mathlib.Core.Path.{_≡_, sym, _∙_}
 use mathlib.Core.Bool.{false}
 use lib.ListN.{length}
-use Rattle.memory.specs.Pages.{wrongLength, anyEntry, badKind, badAddress, listing}
 use borrow.Author.Needs.{needs}
+use Rattle.memory.specs.Pages.{wrongLength, anyEntry, badKind, badAddress, listing}
 use Rattle.memory.proofs.pages.Listing.of.Statement.{statement}
 use Rattle.memory.proofs.pages.Listing.of.Tie as tie
-use Rattle.memory.proofs.pages.Listing.of.Reads as reads
-use Rattle.memory.proofs.pages.Listing.of.Lts as lts
-use Rattle.memory.proofs.pages.any_entry.Reads as any-entry-reads
-use Rattle.memory.proofs.pages.repeated.Reads as repeated-reads
-use Rattle.memory.proofs.pages.wrong_length.Reads as wrong-length-reads
 
 -- each rule that a list has passed is not broken
 passed-1 : (c : tie.Else1) → wrongLength (length (c .before .before .before .args .pages .now)) (c .before .before .before .args .lent) ≡ false
@@ -24,39 +20,31 @@ passed-3 c = sym (c .before .any-entry2 .ensures) ∙ c .if3 .left
 wrong-length-requires : tie.Need-wrong-length-requires
 wrong-length-requires c κs = search needs
 
--- src/pages.rt:112:13
 returns : tie.Need-returns
 unfolding listing
 returns c = rw (sym (c .before .wrong-length .ensures) ∙ c .if1 .taken)
 
--- src/pages.rt:114:12
 any-entry-requires : tie.Need-any-entry-requires
 any-entry-requires c κs = search needs
 
--- src/pages.rt:115:13
 returns-2 : tie.Need-returns-2
 unfolding listing
 returns-2 c = rw (passed-1 (c .before .before), sym (c .before .any-entry .ensures) ∙ c .if2 .taken)
 
--- src/pages.rt:117:12
 any-entry-requires-2 : tie.Need-any-entry-requires-2
 any-entry-requires-2 c κs = search needs
 
--- src/pages.rt:118:13
 returns-3 : tie.Need-returns-3
 unfolding listing
 returns-3 c = rw (passed-1 (c .before .before .before .before), passed-2 (c .before .before), sym (c .before .any-entry2 .ensures) ∙ c .if3 .taken)
 
--- src/pages.rt:120:12
 repeated-requires : tie.Need-repeated-requires
 repeated-requires c κs = search needs
 
--- src/pages.rt:121:13
 returns-4 : tie.Need-returns-4
 unfolding listing
 returns-4 c = rw (passed-1 (c .before .before .before .before .before .before), passed-2 (c .before .before .before .before), passed-3 (c .before .before), sym (c .before .repeated .ensures) ∙ c .if4 .taken)
 
--- src/pages.rt:108:5
 returns-5 : tie.Need-returns-5
 unfolding listing
 returns-5 c = rw (passed-1 (c .before .before .before .before .before .before), passed-2 (c .before .before .before .before), passed-3 (c .before .before), sym (c .before .repeated .ensures) ∙ c .if4 .left)

@@ -1,0 +1,28 @@
+-- What a `pages` line lends. Assumes nothing.
+use Prim.Native.Nat.{ℕ, _+_, _-_, _*_, _/_, _%_, _≤_, _<_}
+use mathlib.Core.Path.{_≡_}
+use mathlib.Core.List.{List}
+use lib.ListN.{length, getD, take, drop}
+use Rattle.memory.specs.Pages.{listing, refusalNumber}
+use Rattle.memory_script.specs.declared.PageList.{PageList}
+
+abbrev pub lentByte : ℕ → ℕ
+lentByte place = (13 * place + place / 256 + 7) % 256
+
+-- every byte is as it was lent
+abbrev pub Fresh : List ℕ → Type 0
+Fresh bytes = (place : ℕ) → place < length bytes → getD bytes place 0 ≡ lentByte place
+
+-- the entries among a line's numbers
+abbrev pub entriesOf : List ℕ → ℕ → List ℕ
+entriesOf numbers count = take (count - 1) (drop 1 numbers)
+
+-- the page list of a line's numbers: a length, then the entries
+abbrev pub pageListOf : List ℕ → ℕ → PageList
+pageListOf numbers count =
+    record { entries = count - 1; lent = getD numbers 0 0; refusal = refusalNumber (listing (entriesOf numbers count) (getD numbers 0 0)) }
+
+-- a page list's entries and lent bytes lie within what holds them
+pub record Held (list : PageList) (pages bytes : List ℕ) : Type 0 where
+  pub entries-held : list .entries ≤ length pages
+  pub bytes-held : list .lent ≤ length bytes

@@ -1,0 +1,3 @@
+-- What the contracts of the script's reader cite.
+pub mod Line
+pub mod Lent

@@ -1,0 +1,63 @@
+-- What a line of a script says. Assumes nothing.
+use Prim.Native.Nat.{ℕ, _+_, _-_, _*_, _≤_, _<_}
+use mathlib.Core.Path.{_≡_}
+use mathlib.Core.Bool.{true, cond, _&&_, _||_}
+use mathlib.Core.List.{List, [], _∷_}
+use lib.ListN.{length, getD}
+use lib.Dec.{eqb, leb, ltb}
+use Rattle.memory_script.specs.declared.Command.{Command}
+use Rattle.memory_script.specs.declared.Command.the-variants.{Pages, Find, Load, Store, Sum}
+use Rattle.memory_script.specs.declared.Word.{Word}
+use Rattle.memory_script.specs.declared.Word.the-variants.{Known, Unknown}
+use Rattle.memory_script.specs.declared.Number.{Number}
+use Rattle.memory_script.specs.declared.Number.the-variants.{Value, Malformed}
+
+-- ---- fields
+
+-- r is the first place from a place on that has the byte, or the text's end
+pub record FirstFrom (text : List ℕ) (from stop r : ℕ) : Type 0 where
+  pub after : from ≤ r
+  pub within : r ≤ length text
+  pub passed : (k : ℕ) → k < r → from ≤ k → getD text k 0 ≡ stop → ⊥
+  pub found : r < length text → getD text r 0 ≡ stop
+
+-- ---- words, in ASCII
+
+abbrev pub spelling : Command → List ℕ
+spelling Pages = 112 ∷ 97 ∷ 103 ∷ 101 ∷ 115 ∷ []
+spelling Find = 102 ∷ 105 ∷ 110 ∷ 100 ∷ []
+spelling Load = 108 ∷ 111 ∷ 97 ∷ 100 ∷ []
+spelling Store = 115 ∷ 116 ∷ 111 ∷ 114 ∷ 101 ∷ []
+spelling Sum = 115 ∷ 117 ∷ 109 ∷ []
+
+abbrev pub Spelt : List ℕ → Word → Type 0
+Spelt text (Known command) = text ≡ spelling command
+Spelt text Unknown = (command : Command) → text ≡ spelling command → ⊥
+
+-- ---- numbers: 1 to 16 hexadecimal digits
+
+-- the value of a digit, 0 to 9 or a to f in ASCII, or 16 for any other byte
+abbrev pub digitOf : ℕ → ℕ
+digitOf byte = cond (leb 48 byte && leb byte 57) (byte - 48) (cond (leb 97 byte && leb byte 102) (byte - 87) 16)
+
+-- the number that digits make, after those that made a value
+unfoldable pub valueFrom : ℕ → List ℕ → Number
+valueFrom value [] = Value value
+valueFrom value (byte ∷ rest) = cond (leb (digitOf byte) 15) (valueFrom (value * 16 + digitOf byte) rest) Malformed
+
+unfoldable pub numberOf : List ℕ → Number
+numberOf field = cond (eqb (length field) 0 || ltb 16 (length field)) Malformed (valueFrom 0 field)
+
+-- ---- the numbers of a line
+
+-- the first number of a `pages` line is a length that can be lent
+abbrev pub FirstFits : Command → ℕ → Type 0
+FirstFits Pages n = n ≤ 73728
+FirstFits Find n = Unit {0}
+FirstFits Load n = Unit {0}
+FirstFits Store n = Unit {0}
+FirstFits Sum n = Unit {0}
+
+pub record Numbers (command : Command) (numbers : List ℕ) (count : ℕ) : Type 0 where
+  pub few : count ≤ 19
+  pub first-fits : 0 < count → FirstFits command (getD numbers 0 0)
