@@ -22,7 +22,11 @@ abbrev pub pageListOf : List ℕ → ℕ → PageList
 pageListOf numbers count =
     record { entries = count - 1; lent = getD numbers 0 0; refusal = refusalNumber (listing (entriesOf numbers count) (getD numbers 0 0)) }
 
--- a page list's entries and lent bytes lie within what holds them
-pub record Held (list : PageList) (pages bytes : List ℕ) : Type 0 where
-  pub entries-held : list .entries ≤ length pages
-  pub bytes-held : list .lent ≤ length bytes
+pub record Bounded (list : PageList) : Type 0 where
+  pub entries-few : list .entries ≤ 18
+  pub lent-few : list .lent ≤ 73728
+
+-- what holds the entries and the bytes has room for those of any line
+pub record Room (pages bytes : List ℕ) : Type 0 where
+  pub entries-room : 18 ≤ length pages
+  pub bytes-room : 73728 ≤ length bytes

@@ -11,6 +11,8 @@ use Rattle.memory_script.specs.declared.Word.{Word}
 use Rattle.memory_script.specs.declared.Word.the-variants.{Known, Unknown}
 use Rattle.memory_script.specs.declared.Number.{Number}
 use Rattle.memory_script.specs.declared.Number.the-variants.{Value, Malformed}
+use Rattle.memory_script.specs.declared.Reading.{Reading}
+use Rattle.memory_script.specs.declared.Reading.the-variants.{Whole, Wrong}
 
 -- ---- fields
 
@@ -58,6 +60,17 @@ FirstFits Load n = Unit {0}
 FirstFits Store n = Unit {0}
 FirstFits Sum n = Unit {0}
 
+-- what is needed of a number that a command can have at a place, counted from 0
+pub record Allowed (command : Command) (place n : ℕ) : Type 0 where
+  pub few : place < 19
+  pub first-fits : place ≡ 0 → FirstFits command n
+
+-- the numbers of a well-formed line
 pub record Numbers (command : Command) (numbers : List ℕ) (count : ℕ) : Type 0 where
+  pub some : 0 < count
   pub few : count ≤ 19
-  pub first-fits : 0 < count → FirstFits command (getD numbers 0 0)
+  pub first-fits : FirstFits command (getD numbers 0 0)
+
+abbrev pub Read : Command → List ℕ → Reading → Type 0
+Read command numbers (Whole count) = Numbers command numbers count
+Read command numbers (Wrong field) = Unit {0}

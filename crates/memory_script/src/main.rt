@@ -7,8 +7,8 @@ ghost use mathlib.Core.Bool.{true};
 ghost use Prim.Native.Nat.{_+_, _-_, _≤_, _<_};
 ghost use lib.ListN.{length, take};
 ghost use Rattle.memory.specs.Access.{kindNumber, byteCount};
-ghost use Rattle.memory_script.specs.Line.{FirstFrom, Spelt, digitOf, numberOf, FirstFits, Numbers};
-ghost use Rattle.memory_script.specs.Lent.{lentByte, Fresh, entriesOf, pageListOf, Held};
+ghost use Rattle.memory_script.specs.Line.{FirstFrom, Spelt, digitOf, numberOf, Allowed, Numbers, Read};
+ghost use Rattle.memory_script.specs.Lent.{lentByte, Fresh, entriesOf, pageListOf, Bounded, Room};
 use libc::STDIN_FILENO;
 use libc::STDOUT_FILENO;
 use memory::Access;
@@ -53,10 +53,10 @@ enum Number {
     Malformed,
 }
 
-// The numbers of a line: how many stand before the first wrong field, and whether they are all of the line and enough.
-struct Reading {
-    count: usize,
-    whole: bool,
+// What the fields after the word are: so many numbers, all as the command asks, or the number of the first wrong field.
+enum Reading {
+    Whole(usize),
+    Wrong(usize),
 }
 
 // The last page list: how many entries it has, how many bytes were lent for it, and the number of its refusal or 0.
@@ -161,7 +161,7 @@ fn access_allows(place: usize, n: u64) -> bool {
 
 // Whether n can be a command's number at a place, counted from 0. Where the command has no such number, nothing can.
 fn allows(command: Command, place: usize, n: u64) -> bool
-    ensures { λ r. ⌜ (r ≡ true → place ≡ 0 → FirstFits command n) ⌝ }
+    ensures { λ r. ⌜ (r ≡ true → Allowed command place n) ⌝ }
 {
     match command {
         Command::Pages => {
@@ -197,42 +197,31 @@ fn fewest(command: Command) -> usize
     }
 }
 
-// Reads the fields that follow a line's word, each with the space before it, up to the first that is wrong.
+// Reads the fields after a line's word, each with the space before it. The word is field 1, so the number at a place, counted
+// from 0, is field place + 2.
 fn read_numbers(command: Command, fields: &[u8], numbers: &mut [u64; NUMBER_LIMIT]) -> Reading
-    ensures { λ r. ⌜ Numbers command (now (numbers .exit)) (r .count) × (r .whole ≡ true → 0 < r .count) ⌝ }
+    ensures { λ r. ⌜ Read command (now (numbers .exit)) r ⌝ }
 {
     let mut count: usize = 0;
     let mut at = 0;
     while at < fields.len() {
-        if count == NUMBER_LIMIT {
-            return Reading {
-                count,
-                whole: false,
-            };
-        }
         let start = at + 1;
         at = find_byte(fields, start, b' ');
         match read_number(&fields[start..at]) {
-            Number::Malformed => return Reading {
-                count,
-                whole: false,
-            },
+            Number::Malformed => return Reading::Wrong(count + 2),
             Number::Value(n) => {
                 if !allows(command, count, n) {
-                    return Reading {
-                        count,
-                        whole: false,
-                    };
+                    return Reading::Wrong(count + 2);
                 }
                 numbers[count] = n;
             }
         }
         count += 1;
     }
-    Reading {
-        count,
-        whole: fewest(command) <= count,
+    if count < fewest(command) {
+        return Reading::Wrong(count + 2);
     }
+    Reading::Whole(count)
 }
 
 // ---- writing
@@ -283,7 +272,7 @@ fn lend_bytes(bytes: &mut [u8])
 }
 
 fn copy_entries(numbers: &[u64; NUMBER_LIMIT], count: usize, pages: &mut [u64])
-    requires { ⌜ (0 < count) × (count ≤ 19) × (count ≤ length (now pages) + 1) ⌝ }
+    requires { ⌜ (0 < count) × (count ≤ 19) × (18 ≤ length (now pages)) ⌝ }
     ensures { λ _. ⌜ take (count - 1) (now (pages .exit)) ≡ entriesOf (now (numbers .entry)) count ⌝ }
 {
     let mut i = 1;
@@ -354,7 +343,7 @@ fn answer_pages(
     pages: &mut [u64],
     bytes: &mut [u8],
 ) -> PageList
-    requires { ⌜ Numbers Command.Pages (now numbers) count × (0 < count) × (18 ≤ length (now pages)) × (73728 ≤ length (now bytes)) ⌝ }
+    requires { ⌜ Numbers Command.Pages (now numbers) count × Room (now pages) (now bytes) ⌝ }
     ensures { λ r. ⌜ r ≡ pageListOf (now (numbers .entry)) count ⌝ }
 {
     let entries = count - 1;
@@ -419,8 +408,8 @@ fn answer(
     pages: &mut [u64],
     bytes: &mut [u8],
 ) -> PageList
-    requires { ⌜ Held list (now pages) (now bytes) × Numbers command (now numbers) count × (0 < count) × (18 ≤ length (now pages)) × (73728 ≤ length (now bytes)) ⌝ }
-    ensures { λ r. ⌜ Held r (now (pages .exit)) (now (bytes .exit)) ⌝ }
+    requires { ⌜ Bounded list × Numbers command (now numbers) count × Room (now pages) (now bytes) ⌝ }
+    ensures { λ r. ⌜ Bounded r ⌝ }
 {
     let entries = list.entries;
     let lent = list.lent;
@@ -456,8 +445,8 @@ fn answer_line(
     pages: &mut [u64],
     bytes: &mut [u8],
 ) -> PageList
-    requires { ⌜ Held list (now pages) (now bytes) × (18 ≤ length (now pages)) × (73728 ≤ length (now bytes)) ⌝ }
-    ensures { λ r. ⌜ Held r (now (pages .exit)) (now (bytes .exit)) ⌝ }
+    requires { ⌜ Bounded list × Room (now pages) (now bytes) ⌝ }
+    ensures { λ r. ⌜ Bounded r ⌝ }
 {
     if is_skipped(line) {
         return list;
@@ -468,21 +457,23 @@ fn answer_line(
         return list;
     };
     let mut numbers = [0; NUMBER_LIMIT];
-    let reading = read_numbers(command, &line[end..], &mut numbers);
-    let count = reading.count;
-    if !reading.whole {
-        print_malformed(line_number, count + 2);
-        return list;
+    match read_numbers(command, &line[end..], &mut numbers) {
+        Reading::Wrong(field) => {
+            print_malformed(line_number, field);
+            list
+        }
+        Reading::Whole(count) => {
+            print(line);
+            print(b" -> ");
+            let next = answer(list, command, &numbers, count, pages, bytes);
+            print(b"\n");
+            next
+        }
     }
-    print(line);
-    print(b" -> ");
-    let next = answer(list, command, &numbers, count, pages, bytes);
-    print(b"\n");
-    next
 }
 
 fn run(input: &[u8], pages: &mut [u64], bytes: &mut [u8])
-    requires { ⌜ (length (now input) ≤ 262144) × (18 ≤ length (now pages)) × (73728 ≤ length (now bytes)) ⌝ }
+    requires { ⌜ (length (now input) ≤ 262144) × Room (now pages) (now bytes) ⌝ }
 {
     let mut list = PageList {
         entries: 0,

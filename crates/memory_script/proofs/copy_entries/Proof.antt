@@ -1,45 +1,50 @@
+use Prim.Native.Nat.{_≤_, _<_, _-_}
+use mathlib.Core.Path.{_≡_, refl, sym, _∙_}
+use native.Mathlib.Omega.{arith}
+use lib.ListN.{length, take, drop}
+use borrow.Author.Needs.{needs}
 use Rattle.memory_script.proofs.copy_entries.Statement.{statement}
 use Rattle.memory_script.proofs.copy_entries.Tie as tie
 use Rattle.memory_script.proofs.copy_entries.Reads as reads
 use Rattle.memory_script.proofs.copy_entries.Lts as lts
 
 abbrev Inv-loop : tie.InvT-loop
-Inv-loop numbers count pages₀ i₀ pages i = ?
+Inv-loop numbers count pages₀ i₀ pages i = (0 < i) × (i ≤ count) × (length pages ≡ length pages₀) × (take (i - 1) pages ≡ take (i - 1) (drop 1 numbers))
 
 abbrev μ-loop : tie.MeasureT-loop
-μ-loop numbers count pages₀ i₀ pages i = ?
+μ-loop numbers count pages₀ i₀ pages i = count - i
 
 -- src/main.rt:280:5
 loop-holds : tie.Need-loop-holds Inv-loop μ-loop
-loop-holds c = ?
+loop-holds c = (omega arith, omega arith, refl, refl)
 
 -- src/main.rt:281:24
 mul-pages : tie.Need-mul-pages Inv-loop μ-loop
-mul-pages c = ?
+mul-pages c = omega arith
 
 -- src/main.rt:281:24
 element-copy-out-pages : tie.Need-element-copy-out-pages Inv-loop μ-loop
-element-copy-out-pages c = ?
+element-copy-out-pages c = omega arith
 
 -- src/main.rt:281:15
 sub-pages : tie.Need-sub-pages Inv-loop μ-loop
-sub-pages c = ?
+sub-pages c = omega arith
 
 -- src/main.rt:281:9
 mul-pages-2 : tie.Need-mul-pages-2 Inv-loop μ-loop
-mul-pages-2 c = ?
+mul-pages-2 c = omega arith
 
 -- src/main.rt:281:9
 slice-write-pages : tie.Need-slice-write-pages Inv-loop μ-loop
-slice-write-pages c = ?
+slice-write-pages c = omega arith
 
 -- src/main.rt:282:9
 add-i : tie.Need-add-i Inv-loop μ-loop
-add-i c = ?
+add-i c = omega arith
 
 -- src/main.rt:280:5
 loop-less : tie.Need-loop-less Inv-loop μ-loop
-loop-less c = ?
+loop-less c = omega arith
 
 -- src/main.rt:280:5
 loop-again : tie.Need-loop-again Inv-loop μ-loop
@@ -47,7 +52,7 @@ loop-again c = ?
 
 -- src/main.rt:275:1
 same-length : tie.Need-same-length Inv-loop μ-loop
-same-length c = ?
+same-length c = c .before .loop .inv .2
 
 -- src/main.rt:275:1
 returns : tie.Need-returns Inv-loop μ-loop

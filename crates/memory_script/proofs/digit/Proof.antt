@@ -1,3 +1,6 @@
+use native.Mathlib.Omega.{arith}
+use mathlib.Core.Path.{sym}
+use borrow.Author.Tests.{le-leb, lt-leb}
 use borrow.Author.Needs.{needs}
 use Rattle.memory_script.proofs.digit.Statement.{statement}
 use Rattle.memory_script.proofs.digit.Tie as tie
@@ -27,7 +30,7 @@ returns-2 c = ?
 
 -- src/main.rt:113:1
 returns-3 : tie.Need-returns-3
-returns-3 c = ?
+returns-3 c = sym (simp (lt-leb 48 _ (c .if1 .taken), lt-leb 97 _ (omega arith)))
 
 -- src/main.rt:113:1
 returns-4 : tie.Need-returns-4

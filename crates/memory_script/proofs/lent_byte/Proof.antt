@@ -1,3 +1,5 @@
+use Rattle.memory_script.proofs.Laws.{lent-rest}
+use native.Mathlib.Omega.{arith}
 use borrow.Author.Needs.{needs}
 use Rattle.memory_script.proofs.lent_byte.Statement.{statement}
 use Rattle.memory_script.proofs.lent_byte.Tie as tie
@@ -22,7 +24,7 @@ cast-result c = search needs
 
 -- src/main.rt:259:1
 returns : tie.Need-returns
-returns c = ?
+returns c = lent-rest _
 
 pub lent-byte-spec : {M : Type 1} → statement M
 lent-byte-spec = tie.close (tie.spec mul-result add-result add-result-2 cast-result returns)

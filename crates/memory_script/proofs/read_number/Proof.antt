@@ -1,3 +1,10 @@
+use Prim.Native.Nat.{_≤_, _<_, _-_, _^_}
+use mathlib.Core.Path.{_≡_, refl, sym, _∙_}
+use native.Mathlib.Omega.{arith}
+use lib.ListN.{length, drop}
+use borrow.Author.Needs.{needs}
+use Rattle.memory_script.specs.Line.{numberOf, valueFrom}
+use Rattle.memory_script.proofs.Laws.{value-turn, value-end, value-room, value-grows}
 use Rattle.memory_script.proofs.read_number.Statement.{statement}
 use Rattle.memory_script.proofs.read_number.Tie as tie
 use Rattle.memory_script.proofs.read_number.Reads as reads
@@ -5,10 +12,10 @@ use Rattle.memory_script.proofs.read_number.Lts as lts
 use Rattle.memory_script.proofs.digit.Reads as digit-reads
 
 abbrev Inv-loop : tie.InvT-loop
-Inv-loop field value₀ i₀ value i = ?
+Inv-loop field value₀ i₀ value i = (i ≤ length field) × (value < 16 ^ i) × (numberOf field ≡ valueFrom value (drop i field))
 
 abbrev μ-loop : tie.MeasureT-loop
-μ-loop field value₀ i₀ value i = ?
+μ-loop field value₀ i₀ value i = length field - i
 
 -- src/main.rt:128:9
 returns : tie.Need-returns Inv-loop μ-loop
