@@ -1,21 +1,28 @@
 -- The laws of the memory for the crates above, which open none of its definitions.
 --
--- What trying an access decides:
---     load-done, load-failed, loaded-value, loaded-failure     of a load
---     store-done, store-failed                                 of a store
---     length-written                                           a store keeps the number of lent bytes
+-- By what trying an access finds:
+--     load-done, load-failed, loaded-value, loaded-failure   what a load gives, and back
+--     store-done, store-failed                               what a store leaves
+-- What a store leaves:
+--     value-written                                          a load of it gives the value's low bytes back
+--     written-elsewhere                                      every other address holds what it held
+--     length-written, length-stored                          no byte is added or lost
 -- Where addresses lead:
---     spot-places                                              to places among the lent bytes, no two to one place
+--     spot-places                                            to places among the lent bytes, no two to one place
 -- Two memories side by side, over any two lookups:
---     ready-in-second, same-value                              an access done in the first is done in the second, with the same value
---     store-in-both                                            a store keeps the relation
---     not-canonical                                            a failure to be canonical does not depend on the pages
+--     ready-in-second, same-value, same-load                 an access done in the first is done in the second, with the same value
+--     store-in-both                                          a store keeps the relation
+--     not-canonical                                          a failure to be canonical does not depend on the pages
+--     alike-probe, alike-load                                memories that hold the same answer alike, failures included
 -- Two page lists:
---     pages-extend                                             the relation, from a list that holds every page of another
---     extends-pages                                            and back: the old pages are alike, the added ones untouched
---     order-free                                               the order of a list has no meaning
+--     pages-extend                                           the relation, from a list that holds every page of another
+--     extends-pages                                          and back: the old pages are alike, the added ones untouched
+--     order-free                                             two valid lists of the same pages hold the same at every address
 -- Assumes nothing.
+
 pub use Rattle.memory.proofs.Answers.{load-done, load-failed, loaded-value, loaded-failure, store-done, store-failed}
+pub use Rattle.memory.proofs.Stored.{value-written, written-elsewhere}
+pub use Rattle.memory.proofs.TwoMemories.{length-written, length-stored}
 pub use Rattle.memory.proofs.Lookup.{spot-places}
+pub use Rattle.memory.proofs.TwoMemories.{ready-in-second, same-value, same-load, store-in-both, not-canonical, alike-probe, alike-load}
 pub use Rattle.memory.proofs.PageLists.{pages-extend, extends-pages, order-free}
-pub use Rattle.memory.proofs.TwoMemories.{ready-in-second, same-value, store-in-both, not-canonical, length-written}

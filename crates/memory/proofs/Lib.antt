@@ -8,6 +8,7 @@ mod Numbers
 mod PageLists
 mod Parts
 mod Steps
+mod Stored
 mod Sums
 mod TwoMemories
 mod Valid

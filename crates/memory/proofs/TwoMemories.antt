@@ -1,6 +1,6 @@
 -- The laws of two memories side by side, over any two lookups. What the first can do the second does alike. Assumes nothing.
 use Prim.Native.Nat.{ℕ, zero, suc, _/_, _%_}
-use mathlib.Core.Path.{_≡_, refl, sym, _∙_, ap}
+use mathlib.Core.Path.{_≡_, refl, sym, _∙_, ap, ap₂}
 use mathlib.Core.Bool.{Bool, true, false, cond}
 use mathlib.Core.List.{List}
 use native.Mathlib.Decide.{ℕ-discrete}
@@ -9,8 +9,8 @@ use lib.ListN.{length, getD}
 use lib.Dec.{eqb}
 use Rattle.memory.specs.Address.{plus, canonical}
 use Rattle.memory.specs.Pages.{Lookup}
-use Rattle.memory.specs.Access.{kindNumber, byteCount, andThen, scan, start, onKind, listedByte, canonicalBytes, listedBytes, probe, byteIn, number, value, putByte, write, written}
-use Rattle.memory.specs.Extends.{present, cell, Extends, Places}
+use Rattle.memory.specs.Access.{kindNumber, byteCount, andThen, scan, start, onKind, listedByte, canonicalBytes, listedBytes, probe, byteIn, number, value, loadedIf, load, putByte, write, written, storedIf, store}
+use Rattle.memory.specs.Extends.{cellIn, present, cell, Extends, Places}
 use Rattle.memory.specs.declared.address.Width.{Width}
 use Rattle.memory.specs.declared.pages.Spot.{Spot}
 use Rattle.memory.specs.declared.pages.Spot.the-variants.{Unlisted, At}
@@ -18,6 +18,8 @@ use Rattle.memory.specs.declared.access.Access.{Access}
 use Rattle.memory.specs.declared.access.Failure.the-variants.{NotCanonical, WrongKind}
 use Rattle.memory.specs.declared.access.Reach.{Reach}
 use Rattle.memory.specs.declared.access.Reach.the-variants.{Ready, Blocked}
+use Rattle.memory.specs.declared.load.Loaded.the-variants.{Value}
+use Rattle.memory.proofs.Answers.{load-done}
 use Rattle.memory.proofs.Cells.{reached, cell-at, cellByte, cell-byte, held, put-here, put-there, places-put}
 use Rattle.memory.proofs.Parts.{length-put}
 
@@ -28,7 +30,7 @@ both-ready Ready s e = (refl, e)
 both-ready (Blocked failure) s e = let z : _≡_ {A = ℕ} 0 1 = cc in absurd (omega arith)
 
 -- the first byte is ready, and so are those after it
-ready-turn : (test : ℕ → Reach) (w : Width) (address n : ℕ) → scan test w address (suc n) ≡ Ready → (test address ≡ Ready) × (scan test w (plus w address 1) n ≡ Ready)
+pub ready-turn : (test : ℕ → Reach) (w : Width) (address n : ℕ) → scan test w address (suc n) ≡ Ready → (test address ≡ Ready) × (scan test w (plus w address 1) n ≡ Ready)
 unfolding scan
 ready-turn test w address n e = both-ready (test address) (scan test w (plus w address 1) n) e
 
@@ -120,6 +122,10 @@ module _ (look₁ : Lookup) (bytes₁ : List ℕ) (look₂ : Lookup) (bytes₂ l
   unfolding value listedBytes
   same-value a e = same-number (kindNumber (a .kind)) (a .width) (start a) (byteCount (a .size)) (probe-ready look₁ a e .1)
 
+  -- so the load as a whole is the same
+  pub same-load : (a : Access) → probe look₁ a ≡ Ready → load look₁ bytes₁ a ≡ load look₂ bytes₂ a
+  same-load a e = load-done look₁ bytes₁ a e ∙ ap Value (same-value a e) ∙ sym (load-done look₂ bytes₂ a (ready-in-second a e))
+
   -- one byte set in both
   module _ (places₁ : Places look₁ (length bytes₁)) (places₂ : Places look₂ (length bytes₂)) (kind address byte : ℕ) (b : InBoth look₁ bytes₁ look₂ bytes₂ kind address) where
     old-here : (other k v : ℕ) → other ≡ address → cell look₁ (putByte (look₁ address) byte bytes₁) other ≡ present k v → cell look₂ (putByte (look₂ address) byte bytes₂) other ≡ present k v
@@ -177,3 +183,44 @@ length-write look w address (suc n) v bytes = length-write look w (plus w addres
 pub length-written : (look : Lookup) (a : Access) (v : ℕ) (bytes : List ℕ) → length (written look a v bytes) ≡ length bytes
 unfolding written
 length-written look a v bytes = length-write look (a .width) (start a) (byteCount (a .size)) v bytes
+
+pub length-stored : (look : Lookup) (a : Access) (v : ℕ) (bytes : List ℕ) → length (store look a v bytes) ≡ length bytes
+unfolding store
+length-stored look a v bytes = go (probe look a)
+  where
+    go : (r : Reach) → length (storedIf r (written look a v bytes) bytes) ≡ length bytes
+    go Ready = length-written look a v bytes
+    go (Blocked failure) = refl
+
+-- ---- memories that hold the same at every address
+
+onKind-alike : (bytes₁ bytes₂ : List ℕ) (kind address : ℕ) (s₁ s₂ : Spot) → cellIn bytes₁ s₁ ≡ cellIn bytes₂ s₂ → onKind kind address s₁ ≡ onKind kind address s₂
+onKind-alike bytes₁ bytes₂ kind address Unlisted Unlisted e = refl
+onKind-alike bytes₁ bytes₂ kind address Unlisted (At k p) e = let z : _≡_ {A = ℕ} 0 1 = cc in absurd (omega arith)
+onKind-alike bytes₁ bytes₂ kind address (At k p) Unlisted e = let z : _≡_ {A = ℕ} 0 1 = cc in absurd (omega arith)
+onKind-alike bytes₁ bytes₂ kind address (At k p) (At l q) e = let same : k ≡ l = cc in rw same
+
+scan-alike : (t₁ t₂ : ℕ → Reach) → ((address : ℕ) → t₁ address ≡ t₂ address) → (w : Width) (address n : ℕ) → scan t₁ w address n ≡ scan t₂ w address n
+unfolding scan
+scan-alike t₁ t₂ same w address zero = refl
+scan-alike t₁ t₂ same w address (suc n) = rw (same address, scan-alike t₁ t₂ same w (plus w address 1) n)
+
+module _ (look₁ : Lookup) (bytes₁ : List ℕ) (look₂ : Lookup) (bytes₂ : List ℕ) (same : (address : ℕ) → cell look₁ bytes₁ address ≡ cell look₂ bytes₂ address) where
+  -- trying finds the same, the address and the reason of a failure included
+  pub alike-probe : (a : Access) → probe look₁ a ≡ probe look₂ a
+  unfolding probe listedBytes
+  alike-probe a =
+      let kind : ℕ = kindNumber (a .kind) in
+      ap (andThen (canonicalBytes a))
+      (scan-alike (listedByte look₁ kind) (listedByte look₂ kind) (λ address. onKind-alike bytes₁ bytes₂ kind address (look₁ address) (look₂ address) (same address)) (a .width) (start a) (byteCount (a .size)))
+
+  number-alike : (w : Width) (address n : ℕ) → number look₁ bytes₁ w address n ≡ number look₂ bytes₂ w address n
+  unfolding number
+  number-alike w address zero = refl
+  number-alike w address (suc n) =
+      rw (cell-byte bytes₁ (look₁ address) ∙ ap cellByte (same address) ∙ sym (cell-byte bytes₂ (look₂ address)), number-alike w (plus w address 1) n)
+
+  -- and a load gives the same
+  pub alike-load : (a : Access) → load look₁ bytes₁ a ≡ load look₂ bytes₂ a
+  unfolding load value
+  alike-load a = ap₂ loadedIf (alike-probe a) (number-alike (a .width) (start a) (byteCount (a .size)))

@@ -1,4 +1,4 @@
--- An access: whether it can be done, the number that it loads, and the bytes that it leaves. Assumes nothing.
+-- An access: whether it can be done, the number that it loads, and the bytes that it leaves (docs/RULES.md, "Reaching a byte"). Assumes nothing.
 use Prim.Native.Nat.{ℕ, zero, suc, _+_, _*_, _/_, _%_}
 use mathlib.Core.Bool.{Bool, true, false, cond}
 use mathlib.Core.List.{List}
@@ -71,11 +71,13 @@ canonicalBytes a = cond (a .canonical) (scan canonicalByte (a .width) (start a) 
 unfoldable pub listedBytes : Lookup → Access → Reach
 listedBytes look a = scan (listedByte look (kindNumber (a .kind))) (a .width) (start a) (byteCount (a .size))
 
+-- What trying an access finds: first whether its addresses are canonical, then the pages. The fields `store` and `user` play no part.
 unfoldable pub probe : Lookup → Access → Reach
 probe look a = andThen (canonicalBytes a) (listedBytes look a)
 
 -- ---- loading
 
+-- the byte at a place, 0 where there is none: an access that is ready has no such byte
 abbrev pub byteIn : List ℕ → Spot → ℕ
 byteIn bytes Unlisted = 0
 byteIn bytes (At kind place) = getD bytes place 0
@@ -93,6 +95,7 @@ abbrev pub loadedIf : Reach → ℕ → Loaded
 loadedIf Ready v = Value v
 loadedIf (Blocked failure) v = Unloaded failure
 
+-- what a load gives
 unfoldable pub load : Lookup → List ℕ → Access → Loaded
 load look bytes a = loadedIf (probe look a) (value look bytes a)
 
@@ -115,5 +118,6 @@ abbrev pub storedIf : Reach → List ℕ → List ℕ → List ℕ
 storedIf Ready after before = after
 storedIf (Blocked failure) after before = before
 
+-- what a store leaves: all of the access, or nothing of it
 unfoldable pub store : Lookup → Access → ℕ → List ℕ → List ℕ
 store look a v bytes = storedIf (probe look a) (written look a v bytes) bytes

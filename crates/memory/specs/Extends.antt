@@ -1,4 +1,4 @@
--- Two memories side by side. Assumes nothing.
+-- Two memories side by side (docs/RULES.md, "Two runs side by side"). Assumes nothing.
 use Prim.Native.Nat.{ℕ, _*_, _<_}
 use mathlib.Core.Path.{_≡_}
 use mathlib.Core.Bool.{false}
@@ -20,8 +20,8 @@ cellIn bytes (At kind place) = present kind (getD bytes place 0)
 abbrev pub cell : Lookup → List ℕ → ℕ → Cell
 cell look bytes address = cellIn bytes (look address)
 
--- The second memory extends the first: each address that the first holds the second holds with the same kind and byte, and each
--- address on no page of the first holds what was lent.
+-- The second memory extends the first. Old bytes (the papers' term: those on pages of the first) are alike in both, and so are
+-- their kinds; every other address of the second, on an added page or on none, still holds what was lent there, `lent₂`.
 pub record Extends (look₁ : Lookup) (bytes₁ : List ℕ) (look₂ : Lookup) (bytes₂ lent₂ : List ℕ) : Type 0 where
   pub old : (address kind byte : ℕ) → cell look₁ bytes₁ address ≡ present kind byte → cell look₂ bytes₂ address ≡ present kind byte
   pub added : (address : ℕ) → look₁ address ≡ Unlisted → cell look₂ bytes₂ address ≡ cell look₂ lent₂ address
@@ -35,10 +35,10 @@ pub record Places (look : Lookup) (lent : ℕ) : Type 0 where
 abbrev pub pageAt : List ℕ → ℕ → List ℕ
 pageAt bytes i = take pageBytes (drop (pageBytes * i) bytes)
 
--- the second list holds every page of the first with the same kind and bytes, in any order
+-- each page of the first list stands somewhere in the second, alike in address, kind and bytes
 pub record HoldsPages (pages₁ bytes₁ pages₂ bytes₂ : List ℕ) : Type 0 where
   pub each : (i : ℕ) → i < length pages₁ → (j : ℕ) × (j < length pages₂) × (getD pages₂ j 0 ≡ getD pages₁ i 0) × (pageAt bytes₂ j ≡ pageAt bytes₁ i)
 
--- the pages of the second list that the first does not list hold what was lent
+-- the added pages, which the first list has not, are untouched (the papers' terms): they hold what was lent
 pub record Untouched (pages₁ pages₂ bytes₂ lent₂ : List ℕ) : Type 0 where
   pub each : (j : ℕ) → j < length pages₂ → anyEntry (onPage (pageOf (getD pages₂ j 0))) pages₁ ≡ false → pageAt bytes₂ j ≡ pageAt lent₂ j

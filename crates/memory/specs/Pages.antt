@@ -1,4 +1,4 @@
--- The page list: its entries, when it is refused, and what an address leads to. Assumes nothing.
+-- The page list: its entries, when it is refused, and what an address leads to (docs/RULES.md, "Pages", "Refusals"). Assumes nothing.
 use Prim.Native.Nat.{ℕ, zero, suc, _+_, _*_, _/_, _%_}
 use mathlib.Core.Bool.{Bool, true, false, not, cond, _||_}
 use mathlib.Core.List.{List, [], _∷_}
@@ -10,6 +10,8 @@ use Rattle.memory.specs.declared.pages.Listing.the-variants.{Valid, BadL
 use Rattle.memory.specs.declared.pages.Spot.{Spot}
 use Rattle.memory.specs.declared.pages.Spot.the-variants.{Unlisted, At}
 
+-- In all that follows `lent` is how many bytes were lent for the list.
+
 -- ---- limits
 
 -- a page's size in bytes
@@ -20,7 +22,7 @@ pageBytes = 4096
 abbrev pub pageLimit : ℕ
 pageLimit = 16
 
--- ---- an entry: page address plus kind in the low 12 bits
+-- ---- an entry: a page address, with the kind in its low 12 bits
 
 -- the page address of an entry, and the address of the page that a byte lies on
 unfoldable pub pageOf : ℕ → ℕ
@@ -52,12 +54,12 @@ unfoldable pub anyEntry : (ℕ → Bool) → List ℕ → Bool
 anyEntry test [] = false
 anyEntry test (entry ∷ rest) = test entry || anyEntry test rest
 
--- refusal 4: two entries have one page address
+-- refusal 4: a page address stands twice
 unfoldable pub repeated : List ℕ → Bool
 repeated [] = false
 repeated (entry ∷ rest) = anyEntry (onPage (pageOf entry)) rest || repeated rest
 
--- each rule is tested over the whole list before the next
+-- The first rule that the list breaks anywhere decides; a list that breaks none is valid (the papers' term).
 unfoldable pub listing : List ℕ → ℕ → Listing
 listing pages lent =
     cond (wrongLength (length pages) lent) BadLength
@@ -66,6 +68,7 @@ listing pages lent =
     (cond (repeated pages) Repeated
     Valid)))
 
+-- the number that each answer has
 abbrev pub refusalNumber : Listing → ℕ
 refusalNumber Valid = 0
 refusalNumber BadLength = 1
@@ -79,7 +82,7 @@ refusalNumber Repeated = 4
 abbrev pub Lookup : Type 0
 Lookup = ℕ → Spot
 
--- on the page of the i-th entry: the i-th 4,096 lent bytes are its own. A page that was not lent whole counts as not listed
+-- on the page of the i-th entry, whose bytes begin at 4,096 * i. A page that was not lent whole counts as not listed
 unfoldable pub inPage : ℕ → ℕ → ℕ → ℕ → Spot
 inPage i entry lent address = cond (ltb i (lent / pageBytes)) (At (kindOf entry) (pageBytes * i + address % pageBytes)) Unlisted
 

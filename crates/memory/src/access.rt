@@ -23,12 +23,15 @@ pub enum Size {
     Eight,
 }
 
-// A load or a store, as it is tried. `store` and `user` alter no answer yet: the error code of a page fault will report them,
-// and a gate's accesses go by the privilege of their moment. A locked load counts as a store.
+// A load or a store, before it is done. No answer of this crate depends on `store` or `user`; a page fault's error code reports
+// them, and an access through a gate is made with the privilege of its moment.
 pub struct Access {
     pub kind: Kind,
+    // Whether it counts as a store: a locked load does.
     pub store: bool,
+    // Whether it is made with user privilege.
     pub user: bool,
+    // The first byte's address. The others follow, and wrap at the width.
     pub first: u64,
     pub size: Size,
     pub width: Width,
@@ -134,6 +137,7 @@ fn test_bytes(pages: &[u64], lent: usize, asked: Asked, width: Width, first: u64
 }
 
 impl Access {
+    // Canonical addresses are a matter of the access alone, so no page is handed on.
     fn canonical_bytes(self) -> Reach
         ensures { λ r. ⌜ r ≡ canonicalBytes self ⌝ }
     {
@@ -146,7 +150,7 @@ impl Access {
         }
     }
 
-    // Whether the access can be done on these pages, of whose bytes the first `lent` were lent.
+    // Whether the access can be done, where `lent` bytes are lent for these pages.
     pub fn probe(self, pages: &[u64], lent: usize) -> Reach
         ensures { λ r. ⌜ r ≡ probeOf (spot (now (pages .entry)) lent) self ⌝ }
     {

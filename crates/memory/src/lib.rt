@@ -1,7 +1,7 @@
 // The memory: the lent pages, what an address leads to, loads and stores.
 //
-// The crates above are built on these contracts alone. No public function has a `requires`: any list of entries, any lent
-// bytes and any access may be handed in, and each contract says outright what comes back and what every lent byte holds.
+// The crates above use these contracts and nothing else of it. Any entries, any bytes and any access may be handed in; each
+// contract gives outright what comes back and what every lent byte holds then.
 mod access;
 mod address;
 mod load;

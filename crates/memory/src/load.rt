@@ -18,7 +18,7 @@ pub enum Loaded {
     Blocked(Failure),
 }
 
-// The byte that an address leads to, as a number.
+// The byte that an address leads to, 0 where it leads to none.
 fn byte_at(pages: &[u64], bytes: &[u8], address: u64) -> u8
     ensures { λ r. ⌜ r ≡ byteIn (now (bytes .entry)) (spot (now (pages .entry)) (length (now (bytes .entry))) address) ⌝ }
 {

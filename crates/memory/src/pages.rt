@@ -1,6 +1,6 @@
 // The page list: its entries, the refusals that it may get, and what an address leads to.
 //
-// An entry is a page's address with the page's kind in its low 12 bits. The i-th 4,096 lent bytes are the i-th page's.
+// An entry is a page's address with the page's kind in its low 12 bits. Entry i owns the lent bytes from 4,096 * i on.
 ghost use mathlib.Core.Path.{_≡_};
 ghost use lib.ListN.{length};
 ghost use Rattle.memory.specs.Pages.{pageOf, kindOf, anyEntry, wrongLength, repeated as repeatedOf, listing, refusalNumber, inPage, spot};
@@ -33,7 +33,7 @@ pub enum Spot {
     At(u64, usize),
 }
 
-// What an entry is searched for.
+// What a search of the entries looks for.
 enum Sought {
     BadKind,
     BadAddress,
@@ -137,7 +137,7 @@ impl Listing {
     }
 }
 
-// Where an address of the page of the i-th entry leads. A page whose bytes were not lent counts as not listed.
+// Where an address on the i-th entry's page leads. A page that was not lent whole counts as not listed.
 fn in_page(i: usize, entry: u64, lent: usize, address: u64) -> Spot
     ensures { λ r. ⌜ r ≡ inPage i entry lent address ⌝ }
 {
@@ -149,7 +149,7 @@ fn in_page(i: usize, entry: u64, lent: usize, address: u64) -> Spot
     }
 }
 
-// What an address leads to, among the first `lent` bytes lent for a page list.
+// What an address leads to, where `lent` bytes are lent for these pages.
 pub fn find(pages: &[u64], lent: usize, address: u64) -> Spot
     ensures { λ r. ⌜ r ≡ spot (now (pages .entry)) lent address ⌝ }
 {

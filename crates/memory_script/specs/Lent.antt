@@ -13,14 +13,23 @@ lentByte place = (13 * place + place / 256 + 7) % 256
 abbrev pub Fresh : List ℕ → Type 0
 Fresh bytes = (place : ℕ) → place < length bytes → getD bytes place 0 ≡ lentByte place
 
--- the entries among a line's numbers
+-- the entries of a line, which stand after its length
 abbrev pub entriesOf : List ℕ → ℕ → List ℕ
-entriesOf numbers count = take (count - 1) (drop 1 numbers)
+entriesOf numbers entries = take entries (drop 1 numbers)
 
--- the page list of a line's numbers: a length, then the entries
+abbrev pub refusalOf : List ℕ → ℕ → ℕ
+refusalOf pages lent = refusalNumber (listing pages lent)
+
+-- the page list that a line's numbers give
 abbrev pub pageListOf : List ℕ → ℕ → PageList
 pageListOf numbers count =
-    record { entries = count - 1; lent = getD numbers 0 0; refusal = refusalNumber (listing (entriesOf numbers count) (getD numbers 0 0)) }
+    record { entries = count - 1; lent = getD numbers 0 0; refusal = refusalOf (entriesOf numbers (count - 1)) (getD numbers 0 0) }
+
+-- a line's numbers lend a page list: its entries stand at the start of what holds entries, and its bytes of what holds bytes
+pub record Lends (numbers : List ℕ) (count : ℕ) (list : PageList) (pages bytes : List ℕ) : Type 0 where
+  pub given : list ≡ pageListOf numbers count
+  pub entries-there : take (count - 1) pages ≡ entriesOf numbers (count - 1)
+  pub bytes-fresh : Fresh (take (getD numbers 0 0) bytes)
 
 pub record Bounded (list : PageList) : Type 0 where
   pub entries-few : list .entries ≤ 18

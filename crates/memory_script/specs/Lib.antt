@@ -1,3 +1,4 @@
 -- What the contracts of the script's reader cite.
 pub mod Line
+pub mod Access
 pub mod Lent

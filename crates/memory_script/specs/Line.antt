@@ -65,8 +65,9 @@ pub record Allowed (command : Command) (place n : ℕ) : Type 0 where
   pub few : place < 19
   pub first-fits : place ≡ 0 → FirstFits command n
 
--- the numbers of a well-formed line
+-- the numbers of a well-formed line: the first count of an array of 19
 pub record Numbers (command : Command) (numbers : List ℕ) (count : ℕ) : Type 0 where
+  pub slots : length numbers ≡ 19
   pub some : 0 < count
   pub few : count ≤ 19
   pub first-fits : FirstFits command (getD numbers 0 0)

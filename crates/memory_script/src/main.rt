@@ -1,14 +1,14 @@
-// Answers a memory script: page lists, finds, loads, stores and sums, one to a line, from standard input to standard output.
+// Answers a memory script: page lists, finds, loads, stores and sums, a line for each, from standard input to standard output.
 //
 // A line is read whole before it is answered, so that a malformed one changes nothing. No contract can speak of what is
-// written: the contracts here are about what a line says and what is lent.
+// written: those here say how a line is read, what is lent, and that every place is within bounds.
 ghost use mathlib.Core.Path.{_≡_};
 ghost use mathlib.Core.Bool.{true};
-ghost use Prim.Native.Nat.{_+_, _-_, _≤_, _<_};
+ghost use Prim.Native.Nat.{_≤_, _<_};
 ghost use lib.ListN.{length, take};
-ghost use Rattle.memory.specs.Access.{kindNumber, byteCount};
 ghost use Rattle.memory_script.specs.Line.{FirstFrom, Spelt, digitOf, numberOf, Allowed, Numbers, Read};
-ghost use Rattle.memory_script.specs.Lent.{lentByte, Fresh, entriesOf, pageListOf, Bounded, Room};
+ghost use Rattle.memory_script.specs.Access.{IsKind, IsWidth, IsSize, IsAccess};
+ghost use Rattle.memory_script.specs.Lent.{lentByte, Fresh, entriesOf, Lends, Bounded, Room};
 use libc::STDIN_FILENO;
 use libc::STDOUT_FILENO;
 use memory::Access;
@@ -24,14 +24,14 @@ use memory::Width;
 // The longest input, in bytes.
 const INPUT_LIMIT: usize = 262144;
 
-// The most bytes and the most entries of a `pages` line. Both are past what a page list may have, so that a script can be
-// refused for them.
+// The most bytes and entries that a `pages` line lends. Both are past what a page list may have, so that a script can try
+// those refusals.
 const LENT_LIMIT: usize = 73728;
 
 const ENTRY_LIMIT: usize = 18;
 
 // The most numbers of a line: a length and the entries.
-const NUMBER_LIMIT: usize = 19;
+const NUMBER_LIMIT: usize = ENTRY_LIMIT + 1;
 
 enum Command {
     Pages,
@@ -200,6 +200,7 @@ fn fewest(command: Command) -> usize
 // Reads the fields after a line's word, each with the space before it. The word is field 1, so the number at a place, counted
 // from 0, is field place + 2.
 fn read_numbers(command: Command, fields: &[u8], numbers: &mut [u64; NUMBER_LIMIT]) -> Reading
+    requires { ⌜ length (now numbers) ≡ 19 ⌝ }
     ensures { λ r. ⌜ Read command (now (numbers .exit)) r ⌝ }
 {
     let mut count: usize = 0;
@@ -271,13 +272,13 @@ fn lend_bytes(bytes: &mut [u8])
     }
 }
 
-fn copy_entries(numbers: &[u64; NUMBER_LIMIT], count: usize, pages: &mut [u64])
-    requires { ⌜ (0 < count) × (count ≤ 19) × (18 ≤ length (now pages)) ⌝ }
-    ensures { λ _. ⌜ take (count - 1) (now (pages .exit)) ≡ entriesOf (now (numbers .entry)) count ⌝ }
+fn copy_entries(numbers: &[u64; NUMBER_LIMIT], entries: usize, pages: &mut [u64])
+    requires { ⌜ (length (now numbers) ≡ 19) × (entries ≤ 18) × (18 ≤ length (now pages)) ⌝ }
+    ensures { λ _. ⌜ take entries (now (pages .exit)) ≡ entriesOf (now (numbers .entry)) entries ⌝ }
 {
-    let mut i = 1;
-    while i < count {
-        pages[i - 1] = numbers[i];
+    let mut i = 0;
+    while i < entries {
+        pages[i] = numbers[i + 1];
         i += 1;
     }
 }
@@ -298,7 +299,7 @@ fn print_changes(bytes: &[u8]) {
 // ---- answering a line
 
 fn kind(n: u64) -> Kind
-    ensures { λ r. ⌜ (0 < n → n < 4 → kindNumber r ≡ n) ⌝ }
+    ensures { λ r. ⌜ IsKind n r ⌝ }
 {
     match n {
         1 => Kind::UserShadow,
@@ -308,21 +309,27 @@ fn kind(n: u64) -> Kind
 }
 
 // The width of addresses of n bytes.
-fn width(n: u64) -> Width {
+fn width(n: u64) -> Width
+    ensures { λ r. ⌜ IsWidth n r ⌝ }
+{
     match n {
         4 => Width::Bits32,
         _ => Width::Bits64,
     }
 }
 
-fn size(n: u64) -> Size {
+fn size(n: u64) -> Size
+    ensures { λ r. ⌜ IsSize n r ⌝ }
+{
     match n {
         4 => Size::Four,
         _ => Size::Eight,
     }
 }
 
-fn access(numbers: &[u64; NUMBER_LIMIT], store: bool) -> Access {
+fn access(numbers: &[u64; NUMBER_LIMIT], store: bool) -> Access
+    ensures { λ r. ⌜ IsAccess (now (numbers .entry)) store r ⌝ }
+{
     let kind = kind(numbers[0]);
     let width = width(numbers[1]);
     let size = size(numbers[3]);
@@ -344,11 +351,11 @@ fn answer_pages(
     bytes: &mut [u8],
 ) -> PageList
     requires { ⌜ Numbers Command.Pages (now numbers) count × Room (now pages) (now bytes) ⌝ }
-    ensures { λ r. ⌜ r ≡ pageListOf (now (numbers .entry)) count ⌝ }
+    ensures { λ r. ⌜ Lends (now (numbers .entry)) count r (now (pages .exit)) (now (bytes .exit)) ⌝ }
 {
     let entries = count - 1;
     let lent = numbers[0] as usize;
-    copy_entries(numbers, count, pages);
+    copy_entries(numbers, entries, pages);
     lend_bytes(&mut bytes[..lent]);
     let refusal = Listing::of(&pages[..entries], lent).number();
     print_with(b"refusal ", refusal);
@@ -491,10 +498,10 @@ fn run(input: &[u8], pages: &mut [u64], bytes: &mut [u8])
 }
 
 // One byte more than the longest input, so that a longer one shows.
-fn input_buffer() -> [u8; 262145]
+fn input_buffer() -> [u8; INPUT_LIMIT + 1]
     ensures { λ r. ⌜ 262145 ≡ length r ⌝ }
 {
-    [0; 262145]
+    [0; INPUT_LIMIT + 1]
 }
 
 fn lent_buffer() -> [u8; LENT_LIMIT]

@@ -94,7 +94,7 @@ impl Atlas {
         let pages: BTreeMap<u64, Spot> = starts
             .into_iter()
             .zip(kinds)
-            .zip((0..).step_by(4096))
+            .zip((0..).step_by(PAGE_BYTES as usize))
             .map(|((start, kind), place)| (start, Spot { kind, place }))
             .collect();
         if pages.len() < entries.len() {

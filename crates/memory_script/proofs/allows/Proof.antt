@@ -1,78 +1,60 @@
+-- `memory_script::allows` meets its contract: what it allows stands at one of 19 places, and can be lent where it is the length of a `pages` line. Assumes nothing.
+use native.Mathlib.Omega.{arith}
+use borrow.Author.Tests.{leb-true, ltb-true, eqb-true}
 use borrow.Author.Needs.{needs}
 use Rattle.memory_script.proofs.allows.Statement.{statement}
 use Rattle.memory_script.proofs.allows.Tie as tie
-use Rattle.memory_script.proofs.allows.Reads as reads
-use Rattle.memory_script.proofs.allows.Lts as lts
-use Rattle.memory_script.proofs.access_allows.Reads as access-allows-reads
-use Rattle.memory_script.proofs.one_of.Reads as one-of-reads
 
--- src/main.rt:168:16
 enum-told : tie.Need-enum-told
 enum-told c = search needs
 
--- src/main.rt:174:26
 enum-told-2 : tie.Need-enum-told-2
 enum-told-2 c = search needs
 
--- src/main.rt:175:26
 enum-told-3 : tie.Need-enum-told-3
 enum-told-3 c = search needs
 
--- src/main.rt:175:39
 access-allows-requires : tie.Need-access-allows-requires
 access-allows-requires c κs = search needs
 
--- src/main.rt:176:27
 enum-told-4 : tie.Need-enum-told-4
 enum-told-4 c = search needs
 
--- src/main.rt:176:40
 access-allows-requires-2 : tie.Need-access-allows-requires-2
 access-allows-requires-2 c κs = search needs
 
--- src/main.rt:178:16
 enum-told-5 : tie.Need-enum-told-5
 enum-told-5 c = search needs
 
--- src/main.rt:179:17
 one-of-requires : tie.Need-one-of-requires
 one-of-requires c κs = search needs
 
--- src/main.rt:163:1
 returns : tie.Need-returns
-returns c = ?
+returns c = λ t. record { few = omega arith; first-fits = λ _. rw (c .before .enum-told .given .1) (leb-true _ _ t) }
 
--- src/main.rt:163:1
 returns-2 : tie.Need-returns-2
-returns-2 c = ?
+returns-2 c = λ t. record { few = omega (arith, leb-true); first-fits = λ z. absurd (c .if1 .left z) }
 
--- src/main.rt:163:1
 returns-3 : tie.Need-returns-3
-returns-3 c = ?
+returns-3 c = λ t. record { few = omega (arith, eqb-true); first-fits = λ _. rw (c .enum-told2 .given .1) tt }
 
--- src/main.rt:163:1
 returns-4 : tie.Need-returns-4
-returns-4 c = ?
+returns-4 c = λ t. record { few = omega arith; first-fits = λ _. rw (c .before .before .enum-told3 .given .1) tt }
 
--- src/main.rt:163:1
 returns-5 : tie.Need-returns-5
-returns-5 c = ?
+returns-5 c = λ t. record { few = omega (arith, ltb-true); first-fits = λ _. rw (c .before .enum-told3 .given .1) tt }
 
--- src/main.rt:163:1
 returns-6 : tie.Need-returns-6
-returns-6 c = ?
+returns-6 c = λ t. record { few = omega arith; first-fits = λ _. rw (c .before .before .enum-told4 .given .1) tt }
 
--- src/main.rt:163:1
 returns-7 : tie.Need-returns-7
-returns-7 c = ?
+returns-7 c = λ t. record { few = omega (arith, ltb-true); first-fits = λ _. rw (c .before .enum-told4 .given .1) tt }
 
--- src/main.rt:163:1
 returns-8 : tie.Need-returns-8
-returns-8 c = ?
+returns-8 c = λ t. record { few = omega arith; first-fits = λ _. rw (c .before .before .enum-told5 .given .1) tt }
 
--- src/main.rt:163:1
 returns-9 : tie.Need-returns-9
-returns-9 c = ?
+returns-9 c = λ t. record { few = omega (arith, ltb-true); first-fits = λ _. rw (c .before .enum-told5 .given .1) tt }
 
 pub allows-spec : {M : Type 1} → statement M
 allows-spec =

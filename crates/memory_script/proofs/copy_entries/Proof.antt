@@ -1,62 +1,58 @@
-use Prim.Native.Nat.{_≤_, _<_, _-_}
-use mathlib.Core.Path.{_≡_, refl, sym, _∙_}
+-- `memory_script::copy_entries` meets its contract. The loop's invariant: the entries so far are copied. Assumes nothing.
+use Prim.Native.Nat.{_≤_, _-_}
+use mathlib.Core.Path.{_≡_, refl}
+use native.Mathlib.Nat.{le-antisymm}
 use native.Mathlib.Omega.{arith}
-use lib.ListN.{length, take, drop}
+use lib.ListN.{length, take, length-set}
 use borrow.Author.Needs.{needs}
+use Rattle.memory_script.specs.Lent.{entriesOf}
+use Rattle.memory_script.proofs.Laws.{copied-more}
 use Rattle.memory_script.proofs.copy_entries.Statement.{statement}
 use Rattle.memory_script.proofs.copy_entries.Tie as tie
-use Rattle.memory_script.proofs.copy_entries.Reads as reads
-use Rattle.memory_script.proofs.copy_entries.Lts as lts
 
 abbrev Inv-loop : tie.InvT-loop
-Inv-loop numbers count pages₀ i₀ pages i = (0 < i) × (i ≤ count) × (length pages ≡ length pages₀) × (take (i - 1) pages ≡ take (i - 1) (drop 1 numbers))
+Inv-loop numbers entries pages₀ i₀ pages i = (i ≤ entries) × (length pages ≡ length pages₀) × (take i pages ≡ entriesOf numbers i)
 
 abbrev μ-loop : tie.MeasureT-loop
-μ-loop numbers count pages₀ i₀ pages i = count - i
+μ-loop numbers entries pages₀ i₀ pages i = entries - i
 
--- src/main.rt:280:5
 loop-holds : tie.Need-loop-holds Inv-loop μ-loop
-loop-holds c = (omega arith, omega arith, refl, refl)
+loop-holds c = (omega arith, refl, refl)
 
--- src/main.rt:281:24
+add-pages : tie.Need-add-pages Inv-loop μ-loop
+add-pages c = search needs
+
 mul-pages : tie.Need-mul-pages Inv-loop μ-loop
-mul-pages c = omega arith
+mul-pages c = search needs
 
--- src/main.rt:281:24
 element-copy-out-pages : tie.Need-element-copy-out-pages Inv-loop μ-loop
-element-copy-out-pages c = omega arith
+element-copy-out-pages c = search needs
 
--- src/main.rt:281:15
-sub-pages : tie.Need-sub-pages Inv-loop μ-loop
-sub-pages c = omega arith
-
--- src/main.rt:281:9
 mul-pages-2 : tie.Need-mul-pages-2 Inv-loop μ-loop
-mul-pages-2 c = omega arith
+mul-pages-2 c = search needs
 
--- src/main.rt:281:9
 slice-write-pages : tie.Need-slice-write-pages Inv-loop μ-loop
-slice-write-pages c = omega arith
+slice-write-pages c = search needs
 
--- src/main.rt:282:9
 add-i : tie.Need-add-i Inv-loop μ-loop
-add-i c = omega arith
+add-i c = search needs
 
--- src/main.rt:280:5
 loop-less : tie.Need-loop-less Inv-loop μ-loop
-loop-less c = omega arith
+loop-less c = search needs
 
--- src/main.rt:280:5
 loop-again : tie.Need-loop-again Inv-loop μ-loop
-loop-again c = ?
+loop-again c =
+    let at-loop = c .before .before in (
+      omega arith,
+      simp length-set (at-loop .loop .inv .1),
+      copied-more (at-loop .loop .pages) (at-loop .before .args .numbers .now) (at-loop .loop .i) (omega arith) (omega arith) (at-loop .loop .inv .2),
+    )
 
--- src/main.rt:275:1
 same-length : tie.Need-same-length Inv-loop μ-loop
-same-length c = c .before .loop .inv .2
+same-length c = c .before .loop .inv .1
 
--- src/main.rt:275:1
 returns : tie.Need-returns Inv-loop μ-loop
-returns c = ?
+returns c = rw (le-antisymm (c .before .loop .inv .0) (c .loop-test .left)) at (c .before .loop .inv .2)
 
 pub copy-entries-spec : {M : Type 1} → statement M
 copy-entries-spec =
@@ -65,9 +61,9 @@ copy-entries-spec =
     Inv-loop
     μ-loop
     loop-holds
+    add-pages
     mul-pages
     element-copy-out-pages
-    sub-pages
     mul-pages-2
     slice-write-pages
     add-i

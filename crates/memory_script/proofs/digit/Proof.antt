@@ -1,44 +1,44 @@
+-- `memory_script::digit` meets its contract, by the ranges of the byte. Assumes nothing.
+use Prim.Native.Nat.{ℕ}
 use native.Mathlib.Omega.{arith}
-use mathlib.Core.Path.{sym}
 use borrow.Author.Tests.{le-leb, lt-leb}
 use borrow.Author.Needs.{needs}
 use Rattle.memory_script.proofs.digit.Statement.{statement}
 use Rattle.memory_script.proofs.digit.Tie as tie
-use Rattle.memory_script.proofs.digit.Reads as reads
-use Rattle.memory_script.proofs.digit.Lts as lts
-use Rattle.memory_script.proofs.wide.Reads as wide-reads
 
--- src/main.rt:116:9
 wide-requires : tie.Need-wide-requires
 wide-requires c κs = search needs
 
--- src/main.rt:118:24
 sub-result : tie.Need-sub-result
 sub-result c = search needs
 
--- src/main.rt:119:24
 sub-result-2 : tie.Need-sub-result-2
 sub-result-2 c = search needs
 
--- src/main.rt:113:1
 returns : tie.Need-returns
-returns c = ?
+returns c =
+    let byte : ℕ = c .before .before .before .args .byte in
+    rw (le-leb 48 byte (c .before .if1 .left), le-leb byte 57 (omega arith), c .before .before .wide .ensures)
 
--- src/main.rt:113:1
 returns-2 : tie.Need-returns-2
-returns-2 c = ?
+returns-2 c =
+    let byte : ℕ = c .before .before .before .before .before .args .byte in
+    rw (le-leb 48 byte (omega arith), lt-leb byte 57 (omega arith), le-leb 97 byte (omega arith), le-leb byte 102 (omega arith), c .before .before .before .before .wide .ensures)
 
--- src/main.rt:113:1
 returns-3 : tie.Need-returns-3
-returns-3 c = sym (simp (lt-leb 48 _ (c .if1 .taken), lt-leb 97 _ (omega arith)))
+returns-3 c =
+    let byte : ℕ = c .before .before .args .byte in
+    rw (lt-leb 48 byte (c .if1 .taken), lt-leb 97 byte (omega arith))
 
--- src/main.rt:113:1
 returns-4 : tie.Need-returns-4
-returns-4 c = ?
+returns-4 c =
+    let byte : ℕ = c .before .before .before .before .args .byte in
+    rw (le-leb 48 byte (omega arith), lt-leb byte 57 (omega arith), lt-leb 97 byte (omega arith))
 
--- src/main.rt:113:1
 returns-5 : tie.Need-returns-5
-returns-5 c = ?
+returns-5 c =
+    let byte : ℕ = c .before .before .before .before .before .args .byte in
+    rw (le-leb 48 byte (omega arith), lt-leb byte 57 (omega arith), le-leb 97 byte (omega arith), lt-leb byte 102 (omega arith))
 
 pub digit-spec : {M : Type 1} → statement M
 digit-spec =

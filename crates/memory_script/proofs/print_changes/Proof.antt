@@ -1,14 +1,9 @@
+-- `memory_script::print_changes` is safe and ends. The measure is the bytes that are left. Assumes nothing.
 use Prim.Native.Nat.{_-_}
-use native.Mathlib.Omega.{arith}
 use lib.ListN.{length}
 use borrow.Author.Needs.{needs}
 use Rattle.memory_script.proofs.print_changes.Statement.{statement}
 use Rattle.memory_script.proofs.print_changes.Tie as tie
-use Rattle.memory_script.proofs.print_changes.Reads as reads
-use Rattle.memory_script.proofs.print_changes.Lts as lts
-use Rattle.memory_script.proofs.lent_byte.Reads as lent-byte-reads
-use Rattle.memory_script.proofs.print_with.Reads as print-with-reads
-use Rattle.memory_script.proofs.wide.Reads as wide-reads
 
 abbrev Inv-loop : tie.InvT-loop
 Inv-loop bytes place₀ t4 t5 place = Unit {0}
@@ -16,51 +11,39 @@ Inv-loop bytes place₀ t4 t5 place = Unit {0}
 abbrev μ-loop : tie.MeasureT-loop
 μ-loop bytes place₀ t4 t5 place = length bytes - place
 
--- src/main.rt:289:5
 loop-holds : tie.Need-loop-holds Inv-loop μ-loop
 loop-holds c = search needs
 
--- src/main.rt:290:20
 shared-slice-read-byte : tie.Need-shared-slice-read-byte Inv-loop μ-loop
 shared-slice-read-byte c = search needs
 
--- src/main.rt:291:20
 lent-byte-requires : tie.Need-lent-byte-requires Inv-loop μ-loop
 lent-byte-requires c κs = search needs
 
--- src/main.rt:292:24
 slice-aggregate-print-with : tie.Need-slice-aggregate-print-with Inv-loop μ-loop
 slice-aggregate-print-with c = search needs
 
--- src/main.rt:292:13
 print-with-requires : tie.Need-print-with-requires Inv-loop μ-loop
 print-with-requires c κs = search needs
 
--- src/main.rt:293:24
 slice-aggregate-print-with-2 : tie.Need-slice-aggregate-print-with-2 Inv-loop μ-loop
 slice-aggregate-print-with-2 c = search needs
 
--- src/main.rt:293:30
 wide-requires : tie.Need-wide-requires Inv-loop μ-loop
 wide-requires c κs = search needs
 
--- src/main.rt:293:13
 print-with-requires-2 : tie.Need-print-with-requires-2 Inv-loop μ-loop
 print-with-requires-2 c κs = search needs
 
--- src/main.rt:295:9
 add-place : tie.Need-add-place Inv-loop μ-loop
 add-place c = search needs
 
--- src/main.rt:289:5
 loop-less : tie.Need-loop-less Inv-loop μ-loop
 loop-less c = search needs
 
--- src/main.rt:289:5
 loop-again : tie.Need-loop-again Inv-loop μ-loop
 loop-again c = search needs
 
--- src/main.rt:287:1
 returns : tie.Need-returns Inv-loop μ-loop
 returns c = search needs
 

@@ -1,15 +1,15 @@
-use Prim.Native.Nat.{_≤_, _<_, _-_, _^_}
-use mathlib.Core.Path.{_≡_, refl, sym, _∙_}
+-- `memory_script::read_number` meets its contract. The loop's invariant: i digits make a value below 16 ^ i, and the number is that of the rest after it. Assumes nothing.
+use Prim.Native.Nat.{ℕ, _≤_, _<_, _-_, _+_, _*_, _^_}
+use mathlib.Core.Path.{_≡_, sym, ap, _∙_}
 use native.Mathlib.Omega.{arith}
+use lib.Dec.{leb, lit<}
 use lib.ListN.{length, drop}
+use borrow.Author.Tests.{eq-eqb, ne-eqb, le-leb, lt-leb, lt-ltb, le-ltb}
 use borrow.Author.Needs.{needs}
 use Rattle.memory_script.specs.Line.{numberOf, valueFrom}
 use Rattle.memory_script.proofs.Laws.{value-turn, value-end, value-room, value-grows}
 use Rattle.memory_script.proofs.read_number.Statement.{statement}
 use Rattle.memory_script.proofs.read_number.Tie as tie
-use Rattle.memory_script.proofs.read_number.Reads as reads
-use Rattle.memory_script.proofs.read_number.Lts as lts
-use Rattle.memory_script.proofs.digit.Reads as digit-reads
 
 abbrev Inv-loop : tie.InvT-loop
 Inv-loop field value₀ i₀ value i = (i ≤ length field) × (value < 16 ^ i) × (numberOf field ≡ valueFrom value (drop i field))
@@ -17,53 +17,54 @@ Inv-loop field value₀ i₀ value i = (i ≤ length field) × (value < 16 ^ i) 
 abbrev μ-loop : tie.MeasureT-loop
 μ-loop field value₀ i₀ value i = length field - i
 
--- src/main.rt:128:9
 returns : tie.Need-returns Inv-loop μ-loop
-returns c = ?
+unfolding numberOf
+returns c = rw (eq-eqb _ _ (c .if1 .taken))
 
--- src/main.rt:131:9
 returns-2 : tie.Need-returns-2 Inv-loop μ-loop
-returns-2 c = ?
+unfolding numberOf
+returns-2 c = rw (ne-eqb _ _ (c .before .if1 .left), lt-ltb _ _ (c .if2 .taken))
 
--- src/main.rt:135:5
 loop-holds : tie.Need-loop-holds Inv-loop μ-loop
-loop-holds c = ?
+unfolding numberOf
+loop-holds c = (omega arith, lit< tt, rw (ne-eqb _ _ (c .before .if1 .left), le-ltb _ _ (c .if2 .left)))
 
--- src/main.rt:136:26
 shared-slice-read-digit : tie.Need-shared-slice-read-digit Inv-loop μ-loop
-shared-slice-read-digit c = ?
+shared-slice-read-digit c = omega arith
 
--- src/main.rt:136:13
 digit-requires : tie.Need-digit-requires Inv-loop μ-loop
-digit-requires c κs = ?
+digit-requires c κs = search needs
 
--- src/main.rt:138:13
 returns-3 : tie.Need-returns-3 Inv-loop μ-loop
-returns-3 c = ?
+returns-3 c =
+    let at-loop = c .before .before .before .before in
+    rw (at-loop .loop .inv .2, value-turn _ (at-loop .loop .i) _ (c .before .before .before .loop-test .taken), sym (ap (λ (n : ℕ). leb n 15) (c .before .digit .ensures)) ∙ lt-leb _ _ (c .if3 .taken))
 
--- src/main.rt:140:17
+room : (c : tie.In-loop Inv-loop μ-loop) → c .before .loop .value * 16 + 15 < 2 ^ 64
+room c = value-room _ _ (c .before .loop .inv .1) (omega arith)
+
 mul-value : tie.Need-mul-value Inv-loop μ-loop
-mul-value c = ?
+mul-value c = omega (arith, room (c .before .before .before))
 
--- src/main.rt:140:17
 add-value : tie.Need-add-value Inv-loop μ-loop
-add-value c = ?
+add-value c = omega (arith, room (c .before .before .before))
 
--- src/main.rt:141:9
 add-i : tie.Need-add-i Inv-loop μ-loop
-add-i c = ?
+add-i c = omega arith
 
--- src/main.rt:135:5
 loop-less : tie.Need-loop-less Inv-loop μ-loop
-loop-less c = ?
+loop-less c = omega arith
 
--- src/main.rt:135:5
 loop-again : tie.Need-loop-again Inv-loop μ-loop
-loop-again c = ?
+loop-again c =
+    let at-loop = c .before .before .before .before in (
+      omega arith,
+      value-grows _ _ _ (at-loop .loop .inv .1) (c .if3 .left),
+      rw (at-loop .loop .inv .2, value-turn _ (at-loop .loop .i) _ (c .before .before .before .loop-test .taken), sym (ap (λ (n : ℕ). leb n 15) (c .before .digit .ensures)) ∙ le-leb _ _ (c .if3 .left), c .before .digit .ensures),
+    )
 
--- src/main.rt:124:1
 returns-4 : tie.Need-returns-4 Inv-loop μ-loop
-returns-4 c = ?
+returns-4 c = sym (c .before .loop .inv .2 ∙ value-end _ _ _ (c .loop-test .left))
 
 pub read-number-spec : {M : Type 1} → statement M
 read-number-spec =

@@ -1,109 +1,98 @@
+-- `memory_script::read_numbers` meets its contract. The loop's invariant: there are at most 19 numbers so far, and the first is as the command asks. Assumes nothing.
+use Prim.Native.Nat.{_≤_, _<_, _-_}
+use mathlib.Core.Path.{_≡_}
+use native.Mathlib.Omega.{arith}
+use lib.ListN.{length, getD, length-set}
+use borrow.Author.Tests.{not-false}
+use borrow.Author.Needs.{needs}
+use Rattle.memory_script.specs.Line.{FirstFits}
+use Rattle.memory_script.proofs.Laws.{first-kept}
 use Rattle.memory_script.proofs.read_numbers.Statement.{statement}
 use Rattle.memory_script.proofs.read_numbers.Tie as tie
-use Rattle.memory_script.proofs.read_numbers.Reads as reads
-use Rattle.memory_script.proofs.read_numbers.Lts as lts
-use Rattle.memory_script.proofs.allows.Reads as allows-reads
-use Rattle.memory_script.proofs.fewest.Reads as fewest-reads
-use Rattle.memory_script.proofs.find_byte.Reads as find-byte-reads
-use Rattle.memory_script.proofs.read_number.Reads as read-number-reads
 
 abbrev Inv-loop : tie.InvT-loop
-Inv-loop command fields numbers₀ count₀ at₀ numbers count at = ?
+Inv-loop command fields numbers₀ count₀ at₀ numbers count at = (at ≤ length fields) × (count ≤ 19) × (length numbers ≡ 19) × (0 < count → FirstFits command (getD numbers 0 0))
 
 abbrev μ-loop : tie.MeasureT-loop
-μ-loop command fields numbers₀ count₀ at₀ numbers count at = ?
+μ-loop command fields numbers₀ count₀ at₀ numbers count at = length fields - at
 
--- src/main.rt:207:5
 loop-holds : tie.Need-loop-holds Inv-loop μ-loop
-loop-holds c = ?
+loop-holds c = (omega arith, omega arith, c .before .pre, λ some. absurd (omega arith))
 
--- src/main.rt:208:21
 add-start : tie.Need-add-start Inv-loop μ-loop
-add-start c = ?
+add-start c = search needs
 
--- src/main.rt:209:9
 find-byte-requires : tie.Need-find-byte-requires Inv-loop μ-loop
-find-byte-requires c κs = ?
+find-byte-requires c κs = search needs
 
--- src/main.rt:210:27
 sub-read-number : tie.Need-sub-read-number Inv-loop μ-loop
-sub-read-number c = ?
+sub-read-number c = search needs
 
--- src/main.rt:210:27
 part-read-number-start : tie.Need-part-read-number-start Inv-loop μ-loop
-part-read-number-start c = ?
+part-read-number-start c = search needs
 
--- src/main.rt:210:27
 part-read-number-end : tie.Need-part-read-number-end Inv-loop μ-loop
-part-read-number-end c = ?
+part-read-number-end c = search needs
 
--- src/main.rt:210:15
 read-number-requires : tie.Need-read-number-requires Inv-loop μ-loop
-read-number-requires c κs = ?
+read-number-requires c κs = search needs
 
--- src/main.rt:211:56
 enum-told : tie.Need-enum-told Inv-loop μ-loop
-enum-told c = ?
+enum-told c = search needs
 
--- src/main.rt:211:56
 add-t14 : tie.Need-add-t14 Inv-loop μ-loop
-add-t14 c = ?
+add-t14 c = search needs
 
--- src/main.rt:211:34
 returns : tie.Need-returns Inv-loop μ-loop
-returns c = ?
+returns c = search needs
 
--- src/main.rt:212:27
 enum-known-n : tie.Need-enum-known-n Inv-loop μ-loop
-enum-known-n c = ?
+enum-known-n c = search needs
 
--- src/main.rt:213:21
 allows-requires : tie.Need-allows-requires Inv-loop μ-loop
-allows-requires c κs = ?
+allows-requires c κs = search needs
 
--- src/main.rt:214:43
 add-t17 : tie.Need-add-t17 Inv-loop μ-loop
-add-t17 c = ?
+add-t17 c = search needs
 
--- src/main.rt:214:21
 returns-2 : tie.Need-returns-2 Inv-loop μ-loop
-returns-2 c = ?
+returns-2 c = search needs
 
--- src/main.rt:216:17
 mul-numbers : tie.Need-mul-numbers Inv-loop μ-loop
-mul-numbers c = ?
+mul-numbers c = search needs
 
--- src/main.rt:216:17
 element-write-numbers : tie.Need-element-write-numbers Inv-loop μ-loop
-element-write-numbers c = ?
+element-write-numbers c = omega (arith, c .before .allows .ensures (not-false _ (c .if1 .left)) .few)
 
--- src/main.rt:219:9
 add-count : tie.Need-add-count Inv-loop μ-loop
-add-count c = ?
+add-count c = search needs
 
--- src/main.rt:207:5
 loop-less : tie.Need-loop-less Inv-loop μ-loop
-loop-less c = ?
+loop-less c = search needs
 
--- src/main.rt:207:5
 loop-again : tie.Need-loop-again Inv-loop μ-loop
-loop-again c = ?
+loop-again c =
+    let at-loop = c .before .before .before .before .before .before .before .before .before in
+    let allowed = c .before .allows .ensures (not-false _ (c .if1 .left)) in
+    let command = at-loop .before .before .args .command in
+    let n = c .before .before .before .n .given .0 .0 in (
+      omega arith,
+      omega (arith, allowed .few),
+      simp length-set (at-loop .loop .inv .2),
+      λ _. first-kept command (at-loop .loop .numbers) _ n (omega arith) (at-loop .loop .inv .3) (allowed .first-fits),
+    )
 
--- src/main.rt:221:16
 fewest-requires : tie.Need-fewest-requires Inv-loop μ-loop
-fewest-requires c κs = ?
+fewest-requires c κs = search needs
 
--- src/main.rt:222:31
 add-t23 : tie.Need-add-t23 Inv-loop μ-loop
-add-t23 c = ?
+add-t23 c = search needs
 
--- src/main.rt:222:9
 returns-3 : tie.Need-returns-3 Inv-loop μ-loop
-returns-3 c = ?
+returns-3 c = search needs
 
--- src/main.rt:202:1
 returns-4 : tie.Need-returns-4 Inv-loop μ-loop
-returns-4 c = ?
+returns-4 c = record { slots = c .before .before .before .loop .inv .2; some = omega arith; few = omega arith; first-fits = c .before .before .before .loop .inv .3 (omega arith) }
 
 pub read-numbers-spec : {M : Type 1} → statement M
 read-numbers-spec =
