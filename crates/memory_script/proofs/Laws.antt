@@ -2,15 +2,15 @@
 use Prim.Native.Nat.{ℕ, zero, suc, _+_, _-_, _*_, _/_, _%_, _^_, _≤_, _<_}
 use mathlib.Core.Path.{_≡_, refl, sym, _∙_, ap}
 use mathlib.Core.Bool.{Bool, true, false, cond}
-use mathlib.Core.List.{List}
+use mathlib.Core.List.{List, _++_}
 use native.Mathlib.Nat.{pow-suc, pow-le-pow-right, add-mul-mod-self-left}
 use native.Mathlib.Numerals.{add-one}
 use native.Mathlib.Omega.{arith}
 use lib.ListN.{length, getD, take, drop, set, length-drop, drop-of-length-le}
-use lib.Seq.{drop-cons, take-suc, take-suc-set, getD-drop, getD-set-same, getD-set-other}
+use lib.Seq.{drop-cons, take-at, take-suc, take-suc-set, getD-drop, getD-set-same, getD-set-other}
 use lib.Dec.{leb, lit<}
 use Rattle.memory_script.specs.Line.{spelling, digitOf, valueFrom, FirstFits, Numbers}
-use Rattle.memory_script.specs.Lent.{lentByte, entriesOf, pageListOf, Bounded}
+use Rattle.memory_script.specs.Lent.{lentByte, Fresh, entriesOf, pageListOf, Bounded}
 use Rattle.memory_script.specs.declared.Command.{Command}
 use Rattle.memory_script.specs.declared.Command.the-variants.{Pages, Find, Load, Store, Sum}
 use Rattle.memory_script.specs.declared.Number.the-variants.{Value, Malformed}
@@ -65,6 +65,9 @@ pub lent-rest : (place : ℕ) → (13 * (place % 256) + place / 256 % 256 + 7) %
 lent-rest place =
     let whole : 13 * place + place / 256 + 7 ≡ 13 * (place % 256) + place / 256 % 256 + 7 + 256 * (13 * (place / 256) + place / 256 / 256) = omega arith in
     sym (ap (λ (n : ℕ). n % 256) whole ∙ add-mul-mod-self-left _ 256 _)
+
+pub front-fresh : (n : ℕ) (front rest : List ℕ) → length front ≡ n → Fresh front → Fresh (take n (front ++ rest))
+front-fresh n front rest e fresh = rw (take-at front rest n e) fresh
 
 -- ---- entries
 
