@@ -52,7 +52,7 @@ same-length-2 : tie.Need-same-length-2
 same-length-2 c = search needs
 
 returns : tie.Need-returns
-returns c = 
+returns c =
     let copied = c .before .before .before .before .before .before .before .before .before .before .before .copy-entries .ensures in
     let lent = c .before .before .before .before .before .before .before .lend-bytes in
     let n : ℕ = getD (c .before .before .before .before .before .before .before .before .before .before .before .before .before .before .before .before .args .numbers .now) 0 0 in

@@ -1,0 +1,73 @@
+-- The laws of the access language for the crates above: what each word of it does, by what the code found. Assumes nothing.
+--
+--     passed, halted          `unless`: the test passes, or the fault comes
+--     entered, skipped        `onlyIf`
+--     loaded, not-loaded      `load`, by what the memory's load gave
+--     touched, not-touched    `touch`, likewise
+--     stored, not-stored      `store`, by what trying gave
+--     completes, faults       a whole operation, by how its program ends
+use Prim.Native.Nat.{ℕ}
+use mathlib.Core.Path.{_≡_, refl, sym, _∙_, ap}
+use mathlib.Core.Bool.{Bool, true, false, cond}
+use mathlib.Core.List.{List}
+use Rattle.memory.specs.Access.{probe, value, written, load as loadAt}
+use Rattle.memory.specs.Pages.{Lookup}
+use Rattle.memory.specs.declared.access.Access.{Access}
+use Rattle.memory.specs.declared.access.Failure.{Failure}
+use Rattle.memory.specs.declared.access.Reach.the-variants.{Ready, Blocked}
+use Rattle.memory.specs.declared.load.Loaded.the-variants.{Value, Blocked as Unloaded}
+use Rattle.memory.proofs.Laws.{loaded-value, loaded-failure}
+use Rattle.processor.specs.Accesses.{blame}
+use Rattle.processor.specs.Prog.{Prog, done, stop, fetch, put, _>>=_, _>>_, load, touch, store, unless, onlyIf, Result, ended, broken, interp, Step, settle, operate}
+use Rattle.processor.specs.declared.answer.Answer.the-variants.{Completed, Faulted}
+use Rattle.processor.specs.declared.answer.Fault.{Fault}
+use Rattle.processor.specs.declared.state.State.{State}
+
+module _ (look : Lookup) (bytes : List ℕ) {A : Type 0} where
+  pub passed : (t : Bool) (fault : Fault) (p : Prog A) → t ≡ true → interp look (unless t fault >> p) bytes ≡ interp look p bytes
+  unfolding _>>=_
+  passed t fault p e = rw e
+
+  pub halted : (t : Bool) (fault : Fault) (p : Prog A) → t ≡ false → interp look (unless t fault >> p) bytes ≡ broken fault
+  unfolding _>>=_ interp
+  halted t fault p e = rw e
+
+  pub entered : (t : Bool) (q : Prog (Unit {0})) (p : Prog A) → t ≡ true → interp look (onlyIf t q >> p) bytes ≡ interp look (q >> p) bytes
+  entered t q p e = rw e
+
+  pub skipped : (t : Bool) (q : Prog (Unit {0})) (p : Prog A) → t ≡ false → interp look (onlyIf t q >> p) bytes ≡ interp look p bytes
+  unfolding _>>=_
+  skipped t q p e = rw e
+
+  pub loaded : (a : Access) (f : ℕ → Prog A) (v : ℕ) → loadAt look bytes a ≡ Value v → interp look (load a >>= f) bytes ≡ interp look (f v) bytes
+  unfolding _>>=_ interp
+  loaded a f v e = let both = loaded-value look bytes a v e in rw (both .0, both .1)
+
+  pub not-loaded : (a : Access) (f : ℕ → Prog A) (failure : Failure) → loadAt look bytes a ≡ Unloaded failure → interp look (load a >>= f) bytes ≡ broken (blame a failure)
+  unfolding _>>=_ interp
+  not-loaded a f failure e = rw (loaded-failure look bytes a failure e)
+
+  pub touched : (a : Access) (p : Prog A) (v : ℕ) → loadAt look bytes a ≡ Value v → interp look (touch a >> p) bytes ≡ interp look p bytes
+  unfolding _>>=_ interp
+  touched a p v e = rw (loaded-value look bytes a v e .0)
+
+  pub not-touched : (a : Access) (p : Prog A) (failure : Failure) → loadAt look bytes a ≡ Unloaded failure → interp look (touch a >> p) bytes ≡ broken (blame a failure)
+  unfolding _>>=_ interp
+  not-touched a p failure e = rw (loaded-failure look bytes a failure e)
+
+  pub stored : (a : Access) (v : ℕ) (p : Prog A) → probe look a ≡ Ready → interp look (store a v >> p) bytes ≡ interp look p (written look a v bytes)
+  unfolding _>>=_ interp
+  stored a v p e = rw e
+
+  pub not-stored : (a : Access) (v : ℕ) (p : Prog A) (failure : Failure) → probe look a ≡ Blocked failure → interp look (store a v >> p) bytes ≡ broken (blame a failure)
+  unfolding _>>=_ interp
+  not-stored a v p failure e = rw e
+
+module _ (look : Lookup) (p : Prog State) (s : State) (bytes : List ℕ) where
+  pub completes : (after : State) (left : List ℕ) → interp look p bytes ≡ ended after left → operate look p s bytes ≡ record { answer = Completed; state = after; bytes = left }
+  unfolding operate
+  completes after left e = rw e
+
+  pub faults : (fault : Fault) → interp look p bytes ≡ broken fault → operate look p s bytes ≡ record { answer = Faulted fault; state = s; bytes = bytes }
+  unfolding operate
+  faults fault e = rw e

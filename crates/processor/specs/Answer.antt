@@ -1,0 +1,45 @@
+-- The answers and their numbers (docs/RULES.md, "Refusals and answers"). Assumes nothing.
+use Prim.Native.Nat.{ℕ}
+use Rattle.processor.specs.declared.answer.Vector.{Vector}
+use Rattle.processor.specs.declared.answer.Vector.the-variants.{InvalidOpcode, Stack, Protection, Page, Control}
+use Rattle.processor.specs.declared.answer.Refusal.{Refusal}
+use Rattle.processor.specs.declared.answer.Refusal.the-variants.{Length, Kind, Address, Repeat, State, Instruction, Words}
+use Rattle.processor.specs.declared.answer.Fault.{Fault}
+
+abbrev pub vectorNumber : Vector → ℕ
+vectorNumber InvalidOpcode = 6
+vectorNumber Stack = 12
+vectorNumber Protection = 13
+vectorNumber Page = 14
+vectorNumber Control = 21
+
+abbrev pub refusalNumber : Refusal → ℕ
+refusalNumber Length = 1
+refusalNumber Kind = 2
+refusalNumber Address = 3
+refusalNumber Repeat = 4
+refusalNumber State = 5
+refusalNumber Instruction = 6
+refusalNumber Words = 7
+
+-- error code 0, no address
+abbrev pub plainFault : Vector → Fault
+plainFault vector = record { vector = vector; code = 0; address = 0 }
+
+-- #UD, #SS(0), #GP(0)
+abbrev pub ud : Fault
+ud = plainFault InvalidOpcode
+
+abbrev pub ss : Fault
+ss = plainFault Stack
+
+abbrev pub gp : Fault
+gp = plainFault Protection
+
+-- #PF, which names a byte
+abbrev pub pageFault : ℕ → Fault
+pageFault address = record { vector = Page; code = 0; address = address }
+
+-- #CP(RSTORSSP)
+abbrev pub cpRstorssp : Fault
+cpRstorssp = record { vector = Control; code = 4; address = 0 }

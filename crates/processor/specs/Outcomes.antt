@@ -1,0 +1,21 @@
+-- What an operation hands back. Assumes nothing.
+use Prim.Native.Nat.{ℕ}
+use mathlib.Core.List.{List}
+use Rattle.processor.specs.Prog.{Step}
+use Rattle.processor.specs.State.{withIp}
+use Rattle.processor.specs.declared.answer.Answer.the-variants.{Completed, Faulted}
+use Rattle.processor.specs.declared.answer.Fault.{Fault}
+use Rattle.processor.specs.declared.outcome.Outcome.{Outcome}
+use Rattle.processor.specs.declared.state.State.{State}
+
+-- done: IP moves on
+abbrev pub completed : State → ℕ → Outcome
+completed s ip = record { answer = Completed; state = withIp s ip }
+
+-- a fault leaves the state alone
+abbrev pub faulted : State → Fault → Outcome
+faulted s fault = record { answer = Faulted fault; state = s }
+
+-- an outcome with the bytes that are left, as one step
+abbrev pub stepOf : Outcome → List ℕ → Step
+stepOf outcome bytes = record { answer = outcome .answer; state = outcome .state; bytes = bytes }

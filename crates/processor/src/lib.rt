@@ -1,0 +1,16 @@
+// The processor: its state, the answers of its operations, and the accesses that it makes.
+//
+// The operations stand in crates above. Each takes a state whole and hands it back whole, inside an outcome.
+mod answer;
+mod outcome;
+mod state;
+
+pub use answer::Answer;
+pub use answer::Fault;
+pub use answer::Refusal;
+pub use answer::Vector;
+pub use outcome::Outcome;
+pub use outcome::blame;
+pub use outcome::fault;
+pub use outcome::page_fault;
+pub use state::State;

@@ -1,0 +1,79 @@
+// What an operation hands back: its answer and the whole state.
+ghost use mathlib.Core.Path.{_≡_};
+ghost use Rattle.processor.specs.Answer.{plainFault, pageFault};
+ghost use Rattle.processor.specs.Accesses.{blame as blameOf};
+ghost use Rattle.processor.specs.Outcomes.{completed, faulted as faultedWith};
+use crate::answer::Answer;
+use crate::answer::Fault;
+use crate::answer::Vector;
+use crate::state::State;
+use memory::Access;
+use memory::Failure;
+use memory::Kind;
+
+pub struct Outcome {
+    pub answer: Answer,
+    pub state: State,
+}
+
+// A fault with error code 0 and no address.
+pub fn fault(vector: Vector) -> Fault
+    ensures { λ r. ⌜ r ≡ plainFault vector ⌝ }
+{
+    Fault {
+        vector,
+        code: 0,
+        address: 0,
+    }
+}
+
+pub fn page_fault(address: u64) -> Fault
+    ensures { λ r. ⌜ r ≡ pageFault address ⌝ }
+{
+    Fault {
+        vector: Vector::Page,
+        code: 0,
+        address,
+    }
+}
+
+// The fault of an access that cannot be done.
+pub fn blame(access: Access, failure: Failure) -> Fault
+    ensures { λ r. ⌜ r ≡ blameOf access failure ⌝ }
+{
+    match failure {
+        Failure::NotListed(address) => page_fault(address),
+        Failure::WrongKind(address) => page_fault(address),
+        Failure::NotCanonical => {
+            let kind = access.kind;
+            match kind {
+                Kind::UserShadow => fault(Vector::Protection),
+                Kind::SupervisorShadow => fault(Vector::Protection),
+                Kind::Ordinary => fault(Vector::Stack),
+            }
+        }
+    }
+}
+
+impl State {
+    // The operation is done, and this is its state.
+    pub fn complete(mut self, ip: u64) -> Outcome
+        ensures { λ r. ⌜ r ≡ completed self ip ⌝ }
+    {
+        self.ip = ip;
+        Outcome {
+            answer: Answer::Completed,
+            state: self,
+        }
+    }
+
+    // The operation faults, and the state is the one from before it.
+    pub fn fail(self, fault: Fault) -> Outcome
+        ensures { λ r. ⌜ r ≡ faultedWith self fault ⌝ }
+    {
+        Outcome {
+            answer: Answer::Faulted(fault),
+            state: self,
+        }
+    }
+}

@@ -1,0 +1,2 @@
+-- The ways through each operation: what the definition gives, by what the code found.
+mod IncsspWays
