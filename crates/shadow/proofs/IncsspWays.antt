@@ -21,6 +21,10 @@ use Rattle.processor.specs.declared.state.State.{State}
 use Rattle.processor.proofs.Laws.{passed, halted, entered, skipped, touched, not-touched, completes, faults}
 use Rattle.shadow.specs.Incssp.{incssp}
 
+pub some-bytes : (size : Size) → 0 < byteCount size
+some-bytes Four = omega arith
+some-bytes Eight = omega arith
+
 -- what is popped fits a word
 pub product : (size : Size) (n : ℕ) → n < 256 → byteCount size * n < 2 ^ 64
 product Four n h = omega arith

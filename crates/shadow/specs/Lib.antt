@@ -1,2 +1,3 @@
 -- The shadow stack operations, one to a file, as programs of loads and stores (docs/RULES.md, "The operations").
 pub mod Incssp
+pub mod Wrss
