@@ -5,6 +5,8 @@
 --     loaded, not-loaded      `load`, by what the memory's load gave
 --     touched, not-touched    `touch`, likewise
 --     stored, not-stored      `store`, by what trying gave
+--     first-blocked, second-blocked, both-stored    two stores
+--     continues, breaks       one program after another, by how the first ends
 --     completes, faults       a whole operation, by how its program ends
 use Prim.Native.Nat.{ℕ}
 use mathlib.Core.Path.{_≡_, refl, sym, _∙_, ap}
@@ -14,11 +16,12 @@ use Rattle.memory.specs.Access.{probe, value, written, load as loadAt}
 use Rattle.memory.specs.Pages.{Lookup}
 use Rattle.memory.specs.declared.access.Access.{Access}
 use Rattle.memory.specs.declared.access.Failure.{Failure}
+use Rattle.memory.specs.declared.access.Reach.{Reach}
 use Rattle.memory.specs.declared.access.Reach.the-variants.{Ready, Blocked}
 use Rattle.memory.specs.declared.load.Loaded.the-variants.{Value, Blocked as Unloaded}
 use Rattle.memory.proofs.Laws.{loaded-value, loaded-failure}
 use Rattle.processor.specs.Accesses.{blame}
-use Rattle.processor.specs.Prog.{Prog, done, stop, fetch, put, _>>=_, _>>_, load, touch, store, unless, onlyIf, Result, ended, broken, interp, Step, settle, operate}
+use Rattle.processor.specs.Prog.{Prog, done, stop, fetch, put, _>>=_, _>>_, load, touch, store, storeBoth, unless, onlyIf, Result, ended, broken, onReach, interp, Step, settle, operate}
 use Rattle.processor.specs.declared.answer.Answer.the-variants.{Completed, Faulted}
 use Rattle.processor.specs.declared.answer.Fault.{Fault}
 use Rattle.processor.specs.declared.state.State.{State}
@@ -71,3 +74,46 @@ module _ (look : Lookup) (p : Prog State) (s : State) (bytes : List ℕ) where
   pub faults : (fault : Fault) → interp look p bytes ≡ broken fault → operate look p s bytes ≡ record { answer = Faulted fault; state = s; bytes = bytes }
   unfolding operate
   faults fault e = rw e
+
+-- ---- one program after another
+
+module _ (look : Lookup) {A B : Type 0} (f : A → Prog B) where
+  after : Result A → Result B
+  after (ended x left) = interp look (f x) left
+  after (broken fault) = broken fault
+
+  on-after : (a : Access) (r : Reach) (go : Result A) → onReach a r (after go) ≡ after (onReach a r go)
+  unfolding after
+  on-after a Ready go = refl
+  on-after a (Blocked failure) go = refl
+
+  bind : (p : Prog A) (bytes : List ℕ) → interp look (p >>= f) bytes ≡ after (interp look p bytes)
+  unfolding _>>=_ interp after
+  bind (done x) bytes = refl
+  bind (stop fault) bytes = refl
+  bind (fetch a k) bytes = ap (onReach a (probe look a)) (bind (k (value look bytes a)) bytes) ∙ on-after a (probe look a) _
+  bind (put a v p) bytes = ap (onReach a (probe look a)) (bind p (written look a v bytes)) ∙ on-after a (probe look a) _
+
+  -- the first ends, and the second goes on from there
+  pub continues : (p : Prog A) (bytes : List ℕ) (x : A) (left : List ℕ) → interp look p bytes ≡ ended x left → interp look (p >>= f) bytes ≡ interp look (f x) left
+  unfolding after
+  continues p bytes x left e = bind p bytes ∙ ap after e
+
+  -- the first breaks off, and so does the whole
+  pub breaks : (p : Prog A) (bytes : List ℕ) (fault : Fault) → interp look p bytes ≡ broken fault → interp look (p >>= f) bytes ≡ broken fault
+  unfolding after
+  breaks p bytes fault e = bind p bytes ∙ ap after e
+
+-- ---- two stores
+
+module _ (look : Lookup) (bytes : List ℕ) (first : Access) (u : ℕ) (second : Access) (v : ℕ) where
+  pub first-blocked : (failure : Failure) → probe look first ≡ Blocked failure → interp look (storeBoth first u second v) bytes ≡ broken (blame first failure)
+  first-blocked failure e = not-stored look bytes first u (store second v) failure e
+
+  pub second-blocked : (failure : Failure) → probe look first ≡ Ready → probe look second ≡ Blocked failure → interp look (storeBoth first u second v) bytes ≡ broken (blame second failure)
+  unfolding interp
+  second-blocked failure r e = stored look bytes first u (store second v) r ∙ rw e
+
+  pub both-stored : probe look first ≡ Ready → probe look second ≡ Ready → interp look (storeBoth first u second v) bytes ≡ ended tt (written look second v (written look first u bytes))
+  unfolding interp
+  both-stored r e = stored look bytes first u (store second v) r ∙ rw e

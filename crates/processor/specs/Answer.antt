@@ -40,6 +40,10 @@ gp = plainFault Protection
 abbrev pub pageFault : ℕ → Fault
 pageFault address = record { vector = Page; code = 0; address = address }
 
+-- #CP, whose error code says which operation found what
+abbrev pub controlFault : ℕ → Fault
+controlFault code = record { vector = Control; code = code; address = 0 }
+
 -- #CP(RSTORSSP)
 abbrev pub cpRstorssp : Fault
-cpRstorssp = record { vector = Control; code = 4; address = 0 }
+cpRstorssp = controlFault 4

@@ -4,6 +4,7 @@
 mod answer;
 mod outcome;
 mod state;
+mod stores;
 
 pub use answer::Answer;
 pub use answer::Fault;
@@ -11,6 +12,9 @@ pub use answer::Refusal;
 pub use answer::Vector;
 pub use outcome::Outcome;
 pub use outcome::blame;
+pub use outcome::control_fault;
 pub use outcome::fault;
 pub use outcome::page_fault;
 pub use state::State;
+pub use stores::Stored;
+pub use stores::store_both;

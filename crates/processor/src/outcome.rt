@@ -1,6 +1,6 @@
 // What an operation hands back: its answer and the whole state.
 ghost use mathlib.Core.Path.{_≡_};
-ghost use Rattle.processor.specs.Answer.{plainFault, pageFault};
+ghost use Rattle.processor.specs.Answer.{plainFault, controlFault, pageFault};
 ghost use Rattle.processor.specs.Accesses.{blame as blameOf};
 ghost use Rattle.processor.specs.Outcomes.{completed, faulted as faultedWith};
 use crate::answer::Answer;
@@ -23,6 +23,17 @@ pub fn fault(vector: Vector) -> Fault
     Fault {
         vector,
         code: 0,
+        address: 0,
+    }
+}
+
+// A control protection fault with its error code.
+pub fn control_fault(code: u64) -> Fault
+    ensures { λ r. ⌜ r ≡ controlFault code ⌝ }
+{
+    Fault {
+        vector: Vector::Control,
+        code,
         address: 0,
     }
 }
