@@ -1,3 +1,5 @@
 -- The shadow stack operations, one to a file, as programs of loads and stores (docs/RULES.md, "The operations").
+pub mod Bits
 pub mod Incssp
+pub mod Rstorssp
 pub mod Wrss

@@ -3,4 +3,5 @@
 // Each takes the state whole and hands it back whole, with the answer; its contract gives the answer, the registers and every
 // lent byte, on faults too, by the operation's definition in specs/.
 pub mod incssp;
+pub mod rstorssp;
 pub mod wrss;

@@ -1,5 +1,14 @@
 //! Addresses: exact sums, their reduction, and the canonical ranges.
 
+/// The first address of the canonical hole.
+pub const HOLE: u64 = 0x0000_8000_0000_0000;
+
+/// The first address above the canonical hole.
+pub const ABOVE_HOLE: u64 = 0xffff_8000_0000_0000;
+
+/// The first address of the last page of all.
+pub const LAST_PAGE: u64 = 0xffff_ffff_ffff_f000;
+
 /// How far addresses go before they start again at 0.
 #[derive(Clone, Copy, Debug, PartialEq, Eq)]
 pub enum Width {
@@ -25,6 +34,11 @@ impl Width {
             Width::Four => 1 << 32,
             Width::Eight => 1 << 64,
         }
+    }
+
+    /// Whether a number is an address as it stands, without a reduction.
+    pub fn holds(self, number: u64) -> bool {
+        i128::from(number) < self.modulus()
     }
 
     /// Brings an exact number, of either sign, into the range of addresses.
@@ -64,6 +78,16 @@ mod tests {
         for other in [0, 1, 3, 5, 7, 9, 0x44, u64::MAX] {
             assert_eq!(Width::from_number(other), None);
         }
+    }
+
+    #[test]
+    fn numbers_below_the_modulus_are_addresses() {
+        assert!(Width::Four.holds(0));
+        assert!(Width::Four.holds(0xffff_ffff));
+        assert!(!Width::Four.holds(0x1_0000_0000));
+        assert!(!Width::Four.holds(u64::MAX));
+        assert!(Width::Eight.holds(0x1_0000_0000));
+        assert!(Width::Eight.holds(u64::MAX));
     }
 
     #[test]

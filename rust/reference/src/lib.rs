@@ -5,19 +5,33 @@
 //! takes other shapes wherever there is a choice: pages stand in an ordered
 //! map and are found by asking for the nearest one below an address, sums are
 //! exact in `i128` and reduced afterwards, and stores never touch the lent
-//! bytes but lie above them in a map of their own.
+//! bytes but lie above them in a map of their own. An operation works on a copy
+//! of the state and lets its stores wait in a transaction until nothing can go
+//! wrong any more.
 //!
 //! * [`address`]: exact sums, their reduction, canonical addresses.
 //! * [`pages`]: reading a page list, the refusals 1 to 4, finding a byte.
 //! * [`memory`]: loads and stores of 4 or 8 bytes on lent pages.
-//! * [`script`]: the memory script, from bytes in to bytes out.
+//! * [`transaction`]: several of them that take effect together or not at all.
+//! * [`processor`]: the ten fields of a state, refusal 5, what follows from it.
+//! * [`fault`]: why an operation can't be done, and what is reported of it.
+//! * [`operations`]: reading an instruction, refusal 6, the five operations.
+//! * [`script`]: scripts of commands, from bytes in to bytes out.
+//! * [`dice`]: numbers that look random.
 //! * [`random`]: memory scripts made by a seeded generator.
+//! * [`random_operations`]: the same with states and operations.
 
 #![deny(missing_docs)]
 #![forbid(unsafe_code)]
 
 pub mod address;
+pub mod dice;
+pub mod fault;
 pub mod memory;
+pub mod operations;
 pub mod pages;
+pub mod processor;
 pub mod random;
+pub mod random_operations;
 pub mod script;
+pub mod transaction;

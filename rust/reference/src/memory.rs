@@ -104,8 +104,7 @@ impl Memory {
     /// Puts the low bytes of a number there, its lowest byte first.
     pub fn store(&mut self, access: &Access, value: u64) -> Result<(), Obstacle> {
         let places = self.places(access)?;
-        self.stored
-            .extend(places.into_iter().zip(value.to_le_bytes()));
+        self.put(places.into_iter().zip(value.to_le_bytes()));
         Ok(())
     }
 
@@ -119,8 +118,25 @@ impl Memory {
             .collect()
     }
 
+    /// Sets the eight bytes from an address up, its lowest byte first, on pages
+    /// of any kind. Addresses start again at 2^64. If one of them is on no
+    /// listed page, the first such comes back and nothing is set.
+    pub fn set_word(&mut self, address: u64, value: u64) -> Result<(), u64> {
+        let places = (0..8)
+            .map(|step| Width::Eight.plus(address, step))
+            .map(|byte| self.find(byte).map(|spot| spot.place).ok_or(byte))
+            .collect::<Result<Vec<u64>, u64>>()?;
+        self.put(places.into_iter().zip(value.to_le_bytes()));
+        Ok(())
+    }
+
+    /// Puts bytes at places, both taken from a store that can be done.
+    pub(crate) fn put(&mut self, bytes: impl IntoIterator<Item = (u64, u8)>) {
+        self.stored.extend(bytes);
+    }
+
     /// The byte at a place, as it is now.
-    fn byte(&self, place: u64) -> u8 {
+    pub(crate) fn byte(&self, place: u64) -> u8 {
         match self.stored.get(&place) {
             Some(&byte) => byte,
             None => self.lent_byte(place),
@@ -133,7 +149,7 @@ impl Memory {
     }
 
     /// The places of all bytes of an access, or what stands against it.
-    fn places(&self, access: &Access) -> Result<Vec<u64>, Obstacle> {
+    pub(crate) fn places(&self, access: &Access) -> Result<Vec<u64>, Obstacle> {
         let addresses = access.addresses();
         if access.canonical && !addresses.iter().copied().all(is_canonical) {
             return Err(Obstacle::NotCanonical);
@@ -259,6 +275,28 @@ mod tests {
             ..eight(0x2ffe)
         };
         assert_eq!(memory.store(&ordinary, 1), Err(Obstacle::NoPage(0x3000)));
+        assert_eq!(memory, before);
+    }
+
+    #[test]
+    fn a_word_goes_on_pages_of_any_kind() {
+        let mut memory = memory(&[0x1001, 0x2003, 0xffff_ffff_ffff_f002, 3]);
+        let word = 0x8877_6655_4433_2211;
+        assert_eq!(memory.set_word(0xffff_ffff_ffff_fffd, word), Ok(()));
+        let mut bytes = memory.changes();
+        bytes.sort_by_key(|&(_, byte)| byte);
+        let places: Vec<u64> = bytes.into_iter().map(|(place, _)| place).collect();
+        assert_eq!(
+            places,
+            [
+                0x2ffd, 0x2ffe, 0x2fff, 0x3000, 0x3001, 0x3002, 0x3003, 0x3004
+            ]
+        );
+        assert_eq!(memory.set_word(0x1ffc, word), Ok(()));
+        let before = memory.clone();
+        assert_eq!(memory.set_word(0x2ffc, 0), Err(0x3000));
+        assert_eq!(memory.set_word(0xffff_ffff_ffff_effc, 0), Err(0xffff_ffff_ffff_effc));
+        assert_eq!(memory.set_word(0x8000, 0), Err(0x8000));
         assert_eq!(memory, before);
     }
 

@@ -5,19 +5,11 @@
 //! list of its last `pages` line, so that the lines after it can aim at the
 //! ends of those pages.
 
-use crate::address::{Width, is_canonical};
+use crate::address::{ABOVE_HOLE, HOLE, LAST_PAGE, Width, is_canonical};
+use crate::dice::Dice;
 use crate::pages::{Atlas, PAGE_BYTES};
 use crate::script::{MOST_ENTRIES, MOST_LENT};
 use std::collections::BTreeSet;
-
-/// The first address of the canonical hole.
-const HOLE: u64 = 0x0000_8000_0000_0000;
-
-/// The first address above the canonical hole.
-const ABOVE_HOLE: u64 = 0xffff_8000_0000_0000;
-
-/// The last page of all.
-const LAST_PAGE: u64 = 0xffff_ffff_ffff_f000;
 
 /// Addresses where something ends or begins.
 const LANDMARKS: [u64; 7] = [0, 1 << 31, 1 << 32, HOLE, 1 << 63, ABOVE_HOLE, LAST_PAGE];
@@ -39,56 +31,6 @@ const HOT_PAGES: [u64; 14] = [
     LAST_PAGE - 0x1000,
     LAST_PAGE,
 ];
-
-/// A source of numbers that look random: a counter with a large odd step,
-/// each value of it stirred by multiplications and shifts.
-#[derive(Clone, Debug)]
-struct Dice {
-    counter: u64,
-}
-
-impl Dice {
-    /// Any number of 64 bits.
-    fn any(&mut self) -> u64 {
-        self.counter = self.counter.wrapping_add(0x9e37_79b9_7f4a_7c15);
-        let mut stirred = self.counter;
-        stirred = (stirred ^ stirred >> 30).wrapping_mul(0xbf58_476d_1ce4_e5b9);
-        stirred = (stirred ^ stirred >> 27).wrapping_mul(0x94d0_49bb_1331_11eb);
-        stirred ^ stirred >> 31
-    }
-
-    /// A number below a limit that is not 0.
-    fn below(&mut self, limit: u64) -> u64 {
-        self.any() % limit
-    }
-
-    /// A number from the first to the last.
-    fn between(&mut self, first: u64, last: u64) -> u64 {
-        first + self.below(last - first + 1)
-    }
-
-    /// Yes, once in so many times.
-    fn once_in(&mut self, times: u64) -> bool {
-        self.below(times) == 0
-    }
-
-    /// An index of something that has so many.
-    fn index(&mut self, count: usize) -> usize {
-        self.below(count as u64) as usize
-    }
-
-    /// One of several.
-    fn one_of<T: Copy>(&mut self, several: &[T]) -> T {
-        several[self.index(several.len())]
-    }
-
-    /// Puts several into another order.
-    fn shuffle<T>(&mut self, several: &mut [T]) {
-        for last in (1..several.len()).rev() {
-            several.swap(last, self.index(last + 1));
-        }
-    }
-}
 
 /// Writes the lines of a random script.
 #[derive(Clone, Debug)]
@@ -120,7 +62,7 @@ impl Author {
     /// An author whose lines depend on nothing but this seed.
     pub fn new(seed: u64) -> Author {
         Author {
-            dice: Dice { counter: seed },
+            dice: Dice::new(seed),
             patience: 0,
             entries: Vec::new(),
             atlas: None,

@@ -1,0 +1,190 @@
+//! Faults: why an operation can't be done, and what is reported of it.
+//!
+//! Inside this program a fault keeps its reason, which says more than the
+//! vector that is reported, so that tests can tell reasons apart.
+
+use crate::memory::Obstacle;
+
+/// The vector of a fault.
+#[derive(Clone, Copy, Debug, PartialEq, Eq, PartialOrd, Ord)]
+pub enum Vector {
+    /// #UD, 6.
+    InvalidOpcode,
+    /// #SS, 12.
+    Stack,
+    /// #GP, 13.
+    Protection,
+    /// #PF, 14.
+    Page,
+    /// #CP, 21.
+    ControlProtection,
+}
+
+impl Vector {
+    /// The number of this vector.
+    pub fn number(self) -> u64 {
+        match self {
+            Vector::InvalidOpcode => 6,
+            Vector::Stack => 12,
+            Vector::Protection => 13,
+            Vector::Page => 14,
+            Vector::ControlProtection => 21,
+        }
+    }
+}
+
+/// The accesses that operations make, each with a name of its own.
+#[derive(Clone, Copy, Debug, PartialEq, Eq, PartialOrd, Ord)]
+pub enum Part {
+    /// The load at SSP that an increment always makes.
+    FirstElement,
+    /// The load of the last element that an increment drops.
+    LastElement,
+    /// The load of a token.
+    Token,
+    /// The load of the four bytes above a token.
+    Gap,
+    /// The store of four zero bytes on the previous shadow stack.
+    Zeros,
+    /// The store of a token.
+    NewToken,
+    /// The store of a value from a register.
+    Value,
+    /// The push on the ordinary stack.
+    OrdinaryPush,
+    /// The push on the shadow stack.
+    ShadowPush,
+}
+
+/// Why an operation can't be done.
+#[derive(Clone, Copy, Debug, PartialEq, Eq, PartialOrd, Ord)]
+pub enum Fault {
+    /// The operation does not exist in real or virtual-8086 mode.
+    RealMode,
+    /// Shadow stacks are not enabled.
+    NotEnabled,
+    /// Plain writes to shadow stacks are not permitted.
+    WritesNotPermitted,
+    /// An address is not a multiple of what it must be one of.
+    Misaligned,
+    /// A shadow access has a byte that is not canonical.
+    ShadowNotCanonical(Part),
+    /// The token to restore has wrong bits at its low end.
+    RestoreMark,
+    /// The token to restore has more than 32 bits outside 64-bit mode.
+    RestoreHigh,
+    /// The token to restore belongs to another place.
+    RestorePlace,
+    /// The carry flag promises a gap, but 64-bit mode knows none.
+    GapInLongMode,
+    /// The gap above the token is not zero.
+    GapNotZero,
+    /// The token is not one of a previous pointer.
+    PreviousMark,
+    /// The token of the previous pointer has more than 32 bits outside 64-bit
+    /// mode.
+    PreviousHigh,
+    /// The target of a call is not canonical.
+    TargetNotCanonical,
+    /// The target of a call lies above the code limit.
+    TargetAboveLimit,
+    /// The ordinary push has a byte that is not canonical.
+    PushNotCanonical,
+    /// The ordinary push does not end at or below 2^32.
+    PushPastEnd,
+    /// An access has no right page at this address.
+    Page(Part, u64),
+}
+
+impl Fault {
+    /// The fault of an access that met an obstacle.
+    pub fn of_access(part: Part, obstacle: Obstacle) -> Fault {
+        match obstacle {
+            Obstacle::NotCanonical => Fault::ShadowNotCanonical(part),
+            Obstacle::NoPage(address) | Obstacle::WrongKind(address) => Fault::Page(part, address),
+        }
+    }
+
+    /// The vector that is reported.
+    pub fn vector(&self) -> Vector {
+        match self {
+            Fault::RealMode | Fault::NotEnabled | Fault::WritesNotPermitted => {
+                Vector::InvalidOpcode
+            }
+            Fault::RestoreMark | Fault::RestoreHigh | Fault::RestorePlace => {
+                Vector::ControlProtection
+            }
+            Fault::PushNotCanonical | Fault::PushPastEnd => Vector::Stack,
+            Fault::Page(..) => Vector::Page,
+            Fault::Misaligned
+            | Fault::ShadowNotCanonical(_)
+            | Fault::GapInLongMode
+            | Fault::GapNotZero
+            | Fault::PreviousMark
+            | Fault::PreviousHigh
+            | Fault::TargetNotCanonical
+            | Fault::TargetAboveLimit => Vector::Protection,
+        }
+    }
+
+    /// The error code that is reported.
+    pub fn error_code(&self) -> u64 {
+        match self.vector() {
+            Vector::ControlProtection => 4,
+            _ => 0,
+        }
+    }
+
+    /// The address that is reported.
+    pub fn address(&self) -> u64 {
+        match self {
+            Fault::Page(_, address) => *address,
+            _ => 0,
+        }
+    }
+}
+
+#[cfg(test)]
+mod tests {
+    use super::*;
+
+    #[test]
+    fn vectors_have_their_numbers() {
+        for (fault, vector, error_code) in [
+            (Fault::RealMode, 6, 0),
+            (Fault::NotEnabled, 6, 0),
+            (Fault::WritesNotPermitted, 6, 0),
+            (Fault::PushNotCanonical, 12, 0),
+            (Fault::PushPastEnd, 12, 0),
+            (Fault::Misaligned, 13, 0),
+            (Fault::ShadowNotCanonical(Part::Token), 13, 0),
+            (Fault::GapInLongMode, 13, 0),
+            (Fault::GapNotZero, 13, 0),
+            (Fault::PreviousMark, 13, 0),
+            (Fault::PreviousHigh, 13, 0),
+            (Fault::TargetNotCanonical, 13, 0),
+            (Fault::TargetAboveLimit, 13, 0),
+            (Fault::RestoreMark, 21, 4),
+            (Fault::RestoreHigh, 21, 4),
+            (Fault::RestorePlace, 21, 4),
+        ] {
+            assert_eq!(fault.vector().number(), vector, "{fault:?}");
+            assert_eq!(fault.error_code(), error_code, "{fault:?}");
+            assert_eq!(fault.address(), 0, "{fault:?}");
+        }
+    }
+
+    #[test]
+    fn a_page_fault_reports_its_address() {
+        for obstacle in [Obstacle::NoPage(0x3008), Obstacle::WrongKind(0x3008)] {
+            let fault = Fault::of_access(Part::Value, obstacle);
+            assert_eq!(fault.vector().number(), 14);
+            assert_eq!(fault.error_code(), 0);
+            assert_eq!(fault.address(), 0x3008);
+        }
+        assert_eq!(
+            Fault::of_access(Part::Gap, Obstacle::NotCanonical),
+            Fault::ShadowNotCanonical(Part::Gap)
+        );
+    }
+}
