@@ -72,6 +72,7 @@ pub record Numbers (command : Command) (numbers : List ℕ) (count : ℕ) : Type
   pub few : count ≤ 19
   pub first-fits : FirstFits command (getD numbers 0 0)
 
+-- what was read of a line: its numbers, or nothing where a field was wrong
 abbrev pub Read : Command → List ℕ → Reading → Type 0
 Read command numbers (Whole count) = Numbers command numbers count
 Read command numbers (Wrong field) = Unit {0}
