@@ -31,6 +31,7 @@ pub record Lends (numbers : List ℕ) (count : ℕ) (list : PageList) (pages byt
   pub entries-there : take (count - 1) pages ≡ entriesOf numbers (count - 1)
   pub bytes-fresh : Fresh (take (getD numbers 0 0) bytes)
 
+-- a page list within the limits of a `pages` line
 pub record Bounded (list : PageList) : Type 0 where
   pub entries-few : list .entries ≤ 18
   pub lent-few : list .lent ≤ 73728

@@ -1,7 +1,7 @@
 -- What a line of a script says. Assumes nothing.
 use Prim.Native.Nat.{ℕ, _+_, _-_, _*_, _≤_, _<_}
 use mathlib.Core.Path.{_≡_}
-use mathlib.Core.Bool.{true, cond, _&&_, _||_}
+use mathlib.Core.Bool.{cond, _&&_, _||_}
 use mathlib.Core.List.{List, [], _∷_}
 use lib.ListN.{length, getD}
 use lib.Dec.{eqb, leb, ltb}
@@ -72,6 +72,7 @@ pub record Numbers (command : Command) (numbers : List ℕ) (count : ℕ) : Type
   pub few : count ≤ 19
   pub first-fits : FirstFits command (getD numbers 0 0)
 
+-- what was read of a line: its numbers, or nothing where a field was wrong
 abbrev pub Read : Command → List ℕ → Reading → Type 0
 Read command numbers (Whole count) = Numbers command numbers count
 Read command numbers (Wrong field) = Unit {0}

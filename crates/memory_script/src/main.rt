@@ -68,7 +68,7 @@ struct PageList {
 
 // ---- reading a line
 
-// The first place from a place on that has the byte, or the text's end.
+// Where a field or a line ends: the first place from a place on that has the byte, or the text's end.
 fn find_byte(text: &[u8], from: usize, stop: u8) -> usize
     requires { ⌜ from ≤ length (now text) ⌝ }
     ensures { λ r. ⌜ FirstFrom (now (text .entry)) from stop r ⌝ }
@@ -148,7 +148,7 @@ fn one_of(n: u64, a: u64, b: u64) -> bool {
     n == a || n == b
 }
 
-// Whether n can be the number at a place of a load or a store: kind, width, canonical, size, first address and value.
+// Whether n can be the number at a place of a load or a store: kind, width, canonical, size, first address, value.
 fn access_allows(place: usize, n: u64) -> bool {
     match place {
         0 => n == 1 || one_of(n, 2, 3),
@@ -159,7 +159,8 @@ fn access_allows(place: usize, n: u64) -> bool {
     }
 }
 
-// Whether n can be a command's number at a place, counted from 0. Where the command has no such number, nothing can.
+// A field too many is wrong like one out of its range, so one test serves for both: whether n can be a command's number at a
+// place, counted from 0.
 fn allows(command: Command, place: usize, n: u64) -> bool
     ensures { λ r. ⌜ (r ≡ true → Allowed command place n) ⌝ }
 {
@@ -184,7 +185,7 @@ fn allows(command: Command, place: usize, n: u64) -> bool
     }
 }
 
-// How many numbers a command has at least.
+// The fewest numbers that a command has.
 fn fewest(command: Command) -> usize
     ensures { λ r. ⌜ 0 < r ⌝ }
 {
@@ -197,8 +198,8 @@ fn fewest(command: Command) -> usize
     }
 }
 
-// Reads the fields after a line's word, each with the space before it. The word is field 1, so the number at a place, counted
-// from 0, is field place + 2.
+// Reads the fields after a line's word, each with the space before it. The word is field 1, so the number at a place is field
+// place + 2.
 fn read_numbers(command: Command, fields: &[u8], numbers: &mut [u64; NUMBER_LIMIT]) -> Reading
     requires { ⌜ length (now numbers) ≡ 19 ⌝ }
     ensures { λ r. ⌜ Read command (now (numbers .exit)) r ⌝ }
@@ -231,7 +232,7 @@ fn print(text: &[u8]) {
     io::write_all(STDOUT_FILENO, text);
 }
 
-// A text, and a number after it.
+// Writes a text, and a number after it.
 fn print_with(text: &[u8], n: u64) {
     print(text);
     io::print_hex(STDOUT_FILENO, n, 1);
@@ -255,7 +256,7 @@ fn print_failure(failure: Failure) {
 
 // ---- what is lent
 
-// The byte that is lent at a place, from remainders that no place makes too large.
+// The byte that is lent at a place. It is made from remainders, which no place makes too large.
 fn lent_byte(place: usize) -> u8
     ensures { λ r. ⌜ r ≡ lentByte place ⌝ }
 {
@@ -272,6 +273,7 @@ fn lend_bytes(bytes: &mut [u8])
     }
 }
 
+// The entries outlive their line, so they are copied from its numbers, where they stand after the length.
 fn copy_entries(numbers: &[u64; NUMBER_LIMIT], entries: usize, pages: &mut [u64])
     requires { ⌜ (length (now numbers) ≡ 19) × (entries ≤ 18) × (18 ≤ length (now pages)) ⌝ }
     ensures { λ _. ⌜ take entries (now (pages .exit)) ≡ entriesOf (now (numbers .entry)) entries ⌝ }
@@ -283,7 +285,7 @@ fn copy_entries(numbers: &[u64; NUMBER_LIMIT], entries: usize, pages: &mut [u64]
     }
 }
 
-// Writes each byte that is no longer as it was lent.
+// Writes each byte that is not as it was lent, with its place.
 fn print_changes(bytes: &[u8]) {
     let mut place = 0;
     while place < bytes.len() {
@@ -344,6 +346,7 @@ fn access(numbers: &[u64; NUMBER_LIMIT], store: bool) -> Access
     }
 }
 
+// Lends fresh bytes with a new page list, and hands that back with its refusal.
 fn answer_pages(
     numbers: &[u64; NUMBER_LIMIT],
     count: usize,
@@ -396,7 +399,7 @@ fn answer_sum(width: Width, a: u64, b: u64) {
     print_with(b" minus ", width.minus(a, b));
 }
 
-// Whether a command goes by the last page list, so that a refusal of that is its answer.
+// Whether a command goes by the last page list: where that was refused, the refusal is its answer.
 fn asks_pages(command: Command) -> bool {
     match command {
         Command::Pages => false,
@@ -407,6 +410,7 @@ fn asks_pages(command: Command) -> bool {
     }
 }
 
+// Answers a well-formed line, and hands back the page list that the next line goes by.
 fn answer(
     list: PageList,
     command: Command,
@@ -445,6 +449,7 @@ fn is_skipped(line: &[u8]) -> bool {
     line.len() == 0 || line[0] == b'#'
 }
 
+// Answers a line, or names its first wrong field, and hands back the page list that the next line goes by.
 fn answer_line(
     list: PageList,
     line: &[u8],

@@ -4,4 +4,5 @@
 // lent byte, on faults too, by the operation's definition in specs/.
 pub mod incssp;
 pub mod rstorssp;
+pub mod saveprevssp;
 pub mod wrss;

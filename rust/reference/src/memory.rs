@@ -295,7 +295,10 @@ mod tests {
         assert_eq!(memory.set_word(0x1ffc, word), Ok(()));
         let before = memory.clone();
         assert_eq!(memory.set_word(0x2ffc, 0), Err(0x3000));
-        assert_eq!(memory.set_word(0xffff_ffff_ffff_effc, 0), Err(0xffff_ffff_ffff_effc));
+        assert_eq!(
+            memory.set_word(0xffff_ffff_ffff_effc, 0),
+            Err(0xffff_ffff_ffff_effc)
+        );
         assert_eq!(memory.set_word(0x8000, 0), Err(0x8000));
         assert_eq!(memory, before);
     }

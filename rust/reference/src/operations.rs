@@ -359,3 +359,6 @@ fn need_multiple(address: u64, size: Size) -> Result<(), Fault> {
     }
     Ok(())
 }
+
+#[cfg(test)]
+mod tests;

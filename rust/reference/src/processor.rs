@@ -110,7 +110,18 @@ impl State {
     /// IP, SP, SSP, RFLAGS, code limit. Nothing comes back if one of them is
     /// out of its range, which is refusal 5.
     pub fn read(fields: [u64; FIELDS]) -> Option<State> {
-        let [mode, cpl, cet, user, supervisor, ip, sp, ssp, flags, code_limit] = fields;
+        let [
+            mode,
+            cpl,
+            cet,
+            user,
+            supervisor,
+            ip,
+            sp,
+            ssp,
+            flags,
+            code_limit,
+        ] = fields;
         let mode = Mode::from_number(mode)?;
         let cet = match cet {
             0 => false,
@@ -291,7 +302,10 @@ mod tests {
         for cpl in 0..3 {
             assert_eq!(state(&[(1, cpl)]).shadow_kind(), Kind::SupervisorShadow);
         }
-        assert_eq!([0, 1, 2].map(|mode| state(&[(0, mode)]).mode.mark()), [0, 0, 1]);
+        assert_eq!(
+            [0, 1, 2].map(|mode| state(&[(0, mode)]).mode.mark()),
+            [0, 0, 1]
+        );
     }
 
     #[test]

@@ -1,17 +1,21 @@
-//! The memory script: lines of commands in, lines of answers out.
+//! Scripts: lines of commands in, lines of answers out.
+//!
+//! There are lines about the memory alone, and lines about a processor on it.
 
 use crate::address::Width;
 use crate::memory::{Access, Memory, Obstacle, Size};
+use crate::operations::{self, Outcome};
 use crate::pages::{Kind, Refusal};
-use std::fmt::Write;
+use crate::processor::{FIELDS, State};
+use std::fmt::{Display, Write};
 
 /// The longest input that is read, in bytes.
 pub const LONGEST_INPUT: usize = 0x40000;
 
-/// The most bytes that a `pages` line lends.
+/// The most bytes that a `pages` or `blank` line lends.
 pub const MOST_LENT: u64 = 0x12000;
 
-/// The most entries that a `pages` line has.
+/// The most entries that a `pages` or `blank` line has.
 pub const MOST_ENTRIES: usize = 18;
 
 /// Answers a whole script.
@@ -55,9 +59,9 @@ fn is_skipped(line: &[u8]) -> bool {
 
 /// A line that was understood.
 #[derive(Clone, Debug, PartialEq, Eq)]
-enum Command {
-    /// Lend so many fresh bytes with this page list.
-    Pages { length: u64, entries: Vec<u64> },
+pub(crate) enum Command {
+    /// Lend these bytes with this page list.
+    Pages { lent: Vec<u8>, entries: Vec<u64> },
     /// Ask where an address lies.
     Find(u64),
     /// Read a number.
@@ -66,11 +70,17 @@ enum Command {
     Store(Access, u64),
     /// Add and subtract two numbers.
     Sum(Width, u64, u64),
+    /// Take these fields as the state.
+    State([u64; FIELDS]),
+    /// Set eight bytes from this address up to this number.
+    Word(u64, u64),
+    /// Carry out this instruction: code, length, A and B.
+    Do([u64; 4]),
 }
 
 /// The number, from 1, of the first field that spoils a line.
 #[derive(Clone, Copy, Debug, PartialEq, Eq)]
-struct WrongField(usize);
+pub(crate) struct WrongField(usize);
 
 /// The fields of a line, taken one after the other.
 struct Fields<'line> {
@@ -137,10 +147,17 @@ fn read_choice(number: u64) -> Option<bool> {
 }
 
 /// Reads a line that is not skipped.
-fn read_command(line: &[u8]) -> Result<Command, WrongField> {
+pub(crate) fn read_command(line: &[u8]) -> Result<Command, WrongField> {
     let mut fields = Fields::of(line);
     let command = match fields.take(Some)? {
-        b"pages" => read_pages(&mut fields),
+        b"pages" => read_pages(&mut fields, fresh_bytes),
+        b"blank" => read_pages(&mut fields, zero_bytes),
+        b"state" => read_state(&mut fields),
+        b"word" => {
+            let address = fields.take_number()?;
+            Ok(Command::Word(address, fields.take_number()?))
+        }
+        b"do" => read_instruction(&mut fields),
         b"find" => Ok(Command::Find(fields.take_number()?)),
         b"load" => Ok(Command::Load(read_access(&mut fields)?)),
         b"store" => {
@@ -158,14 +175,41 @@ fn read_command(line: &[u8]) -> Result<Command, WrongField> {
     Ok(command)
 }
 
-/// Reads what follows the word `pages`, up to the most entries allowed.
-fn read_pages(fields: &mut Fields) -> Result<Command, WrongField> {
+/// Reads what follows the words `pages` and `blank`, up to the most entries
+/// allowed. The bytes that are lent depend on their number.
+fn read_pages(
+    fields: &mut Fields,
+    bytes: impl FnOnce(u64) -> Vec<u8>,
+) -> Result<Command, WrongField> {
     let length = fields.take_as(|length| (length <= MOST_LENT).then_some(length))?;
     let mut entries = Vec::new();
     while fields.is_left() && entries.len() < MOST_ENTRIES {
         entries.push(fields.take_number()?);
     }
-    Ok(Command::Pages { length, entries })
+    Ok(Command::Pages {
+        lent: bytes(length),
+        entries,
+    })
+}
+
+/// Reads the ten fields of a state, in their ranges or not.
+fn read_state(fields: &mut Fields) -> Result<Command, WrongField> {
+    let mut numbers = [0; FIELDS];
+    for number in &mut numbers {
+        *number = fields.take_number()?;
+    }
+    Ok(Command::State(numbers))
+}
+
+/// Reads an instruction whose code and length exist.
+fn read_instruction(fields: &mut Fields) -> Result<Command, WrongField> {
+    let up_to = |last| move |number| (1..=last).contains(&number).then_some(number);
+    Ok(Command::Do([
+        fields.take_as(up_to(8))?,
+        fields.take_as(up_to(15))?,
+        fields.take_number()?,
+        fields.take_number()?,
+    ]))
 }
 
 /// Reads the five fields that `load` and `store` have in common.
@@ -186,27 +230,44 @@ pub fn fresh_bytes(length: u64) -> Vec<u8> {
         .collect()
 }
 
-/// What the script works on: the memory of the last `pages` line, or the
-/// reason why that line was sent back.
-struct Desk {
+/// The bytes that a `blank` line lends.
+fn zero_bytes(length: u64) -> Vec<u8> {
+    (0..length).map(|_| 0).collect()
+}
+
+/// What the script works on.
+pub(crate) struct Desk {
+    /// The memory of the last page list, or the reason why that list was sent
+    /// back.
     memory: Result<Memory, Refusal>,
+    /// The fields of the state, in their ranges or not.
+    fields: [u64; FIELDS],
+}
+
+/// What came of an instruction.
+#[derive(Clone, Copy, Debug, PartialEq, Eq)]
+pub(crate) enum Attempt {
+    /// It was not tried, because the page list or the state was refused.
+    NotTried(u64),
+    /// It was tried.
+    Tried(Outcome),
 }
 
 impl Desk {
-    /// No page and no byte, which is a good list.
-    fn new() -> Desk {
+    /// No page and no byte, which is a good list, and a state of zeros.
+    pub(crate) fn new() -> Desk {
         Desk {
             memory: Memory::new(&[], Vec::new()),
+            fields: [0; FIELDS],
         }
     }
 
     /// Carries out a command and puts its answer into words.
-    fn answer(&mut self, command: &Command) -> String {
+    pub(crate) fn answer(&mut self, command: &Command) -> String {
         match command {
-            Command::Pages { length, entries } => {
-                self.memory = Memory::new(entries, fresh_bytes(*length));
-                let number = self.memory.as_ref().map_or_else(|why| why.number(), |_| 0);
-                format!("refusal {number:x}")
+            Command::Pages { lent, entries } => {
+                self.memory = Memory::new(entries, lent.clone());
+                refusal(self.memory.as_ref().map_or_else(|why| why.number(), |_| 0))
             }
             Command::Sum(width, left, right) => {
                 let plus = width.plus(*left, *right);
@@ -216,6 +277,17 @@ impl Desk {
             Command::Find(address) => self.on_memory(|memory| find(memory, *address)),
             Command::Load(access) => self.on_memory(|memory| load(memory, access)),
             Command::Store(access, value) => self.on_memory(|memory| store(memory, access, *value)),
+            Command::State(fields) => {
+                self.fields = *fields;
+                refusal(State::read(*fields).map_or(5, |_| 0))
+            }
+            Command::Word(address, value) => {
+                self.on_memory(|memory| set_word(memory, *address, *value))
+            }
+            Command::Do(words) => {
+                let attempt = self.attempt(*words);
+                self.report(attempt)
+            }
         }
     }
 
@@ -223,8 +295,65 @@ impl Desk {
     fn on_memory(&mut self, act: impl FnOnce(&mut Memory) -> String) -> String {
         match &mut self.memory {
             Ok(memory) => act(memory),
-            Err(why) => format!("refusal {:x}", why.number()),
+            Err(why) => refusal(why.number()),
         }
+    }
+
+    /// Tries one instruction, and keeps what follows from it.
+    pub(crate) fn attempt(&mut self, words: [u64; 4]) -> Attempt {
+        let memory = match &mut self.memory {
+            Ok(memory) => memory,
+            Err(why) => return Attempt::NotTried(why.number()),
+        };
+        let Some(state) = State::read(self.fields) else {
+            return Attempt::NotTried(5);
+        };
+        let outcome = operations::step(&state, words, memory);
+        if let Outcome::Completed(after) = outcome {
+            self.fields = after.fields();
+        }
+        Attempt::Tried(outcome)
+    }
+
+    /// The answer to `do`: how it went and, unless it was refused, the state
+    /// and every lent byte that differs now.
+    fn report(&self, attempt: Attempt) -> String {
+        let mut answer = match attempt {
+            Attempt::NotTried(number) => return refusal(number),
+            Attempt::Tried(Outcome::Refused) => return refusal(6),
+            Attempt::Tried(Outcome::Completed(_)) => "completed".to_string(),
+            Attempt::Tried(Outcome::Faulted(fault)) => format!(
+                "fault {:x} {:x} {:x}",
+                fault.vector().number(),
+                fault.error_code(),
+                fault.address()
+            ),
+        };
+        append(&mut answer, "state");
+        for field in self.fields {
+            append(&mut answer, format_args!("{field:x}"));
+        }
+        if let Ok(memory) = &self.memory {
+            append_changes(&mut answer, memory);
+        }
+        answer
+    }
+}
+
+/// A refusal in words.
+fn refusal(number: u64) -> String {
+    format!("refusal {number:x}")
+}
+
+/// Goes on after a space.
+fn append(answer: &mut String, what: impl Display) {
+    write!(answer, " {what}").expect("a string takes all that is written");
+}
+
+/// Goes on with every lent byte that differs now.
+fn append_changes(answer: &mut String, memory: &Memory) {
+    for (place, byte) in memory.changes() {
+        append(answer, format_args!("{place:x}={byte:x}"));
     }
 }
 
@@ -250,10 +379,16 @@ fn store(memory: &mut Memory, access: &Access, value: u64) -> String {
         Ok(()) => "stored".to_string(),
         Err(obstacle) => describe(obstacle),
     };
-    for (place, byte) in memory.changes() {
-        write!(answer, " {place:x}={byte:x}").expect("a string takes all that is written");
-    }
+    append_changes(&mut answer, memory);
     answer
+}
+
+/// The answer to `word`.
+fn set_word(memory: &mut Memory, address: u64, value: u64) -> String {
+    match memory.set_word(address, value) {
+        Ok(()) => "set".to_string(),
+        Err(missing) => describe(Obstacle::NoPage(missing)),
+    }
 }
 
 /// An obstacle in words.

@@ -23,7 +23,9 @@ enum-told : tie.Need-enum-told
 enum-told c = search needs
 
 answer-pages-requires : tie.Need-answer-pages-requires
-answer-pages-requires c κs = (rw (c .before .before .enum-told .given .1) at (c .before .before .before .before .before .before .before .before .pre .1), search needs)
+answer-pages-requires c κs =
+    let start = c .before .before .before .before .before .before .before .before in
+    (rw (c .before .before .enum-told .given .1) at (start .pre .1), search needs)
 
 same-length : tie.Need-same-length
 same-length c = search needs
@@ -33,8 +35,9 @@ same-length-2 c = search needs
 
 returns-2 : tie.Need-returns-2
 returns-2 c =
+    let start = c .before .before .before .before .before .before .before .before .before .before .before .before .before in
     let told = c .before .before .before .before .before .before .before .enum-told .given .1 in
-    rw (c .before .before .before .before .answer-pages .ensures .given) (list-bounded _ _ (rw told at (c .before .before .before .before .before .before .before .before .before .before .before .before .before .pre .1)))
+    rw (c .before .before .before .before .answer-pages .ensures .given) (list-bounded _ _ (rw told at (start .pre .1)))
 
 enum-told-2 : tie.Need-enum-told-2
 enum-told-2 c = search needs

@@ -64,7 +64,10 @@ print-requires-2 : tie.Need-print-requires-2
 print-requires-2 c κs = search needs
 
 answer-requires : tie.Need-answer-requires
-answer-requires c κs = (search needs, rw (c .before .before .before .before .before .before .before .count .given .1) at (c .before .before .before .before .before .before .before .before .before .read-numbers .ensures), search needs)
+answer-requires c κs =
+    let count = c .before .before .before .before .before .before .before .count in
+    let read = c .before .before .before .before .before .before .before .before .before .read-numbers in
+    (search needs, rw (count .given .1) at (read .ensures), search needs)
 
 slice-aggregate-print-2 : tie.Need-slice-aggregate-print-2
 slice-aggregate-print-2 c = search needs

@@ -1,11 +1,10 @@
-use Prim.Native.Nat.{ℕ}
-use mathlib.Core.Path.{_≡_, sym}
-use lib.ListN.{getD, length}
-use Rattle.memory_script.proofs.Laws.{front-fresh}
--- `memory_script::answer_pages` meets its contract: the page list is the one that the line's numbers give. Assumes nothing.
+-- `memory_script::answer_pages` meets its contract: the page list, its entries and its bytes are those that the line's numbers give. Assumes nothing.
+use mathlib.Core.Path.{sym}
 use native.Mathlib.Omega.{arith}
+use lib.ListN.{getD}
 use lib.Seq.{length-take-le}
 use borrow.Author.Needs.{needs}
+use Rattle.memory_script.proofs.Laws.{front-fresh}
 use Rattle.memory_script.proofs.answer_pages.Statement.{statement}
 use Rattle.memory_script.proofs.answer_pages.Tie as tie
 
@@ -53,14 +52,14 @@ same-length-2 c = search needs
 
 returns : tie.Need-returns
 returns c =
+    let start = c .before .before .before .before .before .before .before .before .before .before .before .before .before .before .before .before in
     let copied = c .before .before .before .before .before .before .before .before .before .before .before .copy-entries .ensures in
     let lent = c .before .before .before .before .before .before .before .lend-bytes in
-    let n : ℕ = getD (c .before .before .before .before .before .before .before .before .before .before .before .before .before .before .before .before .args .numbers .now) 0 0 in
-    let whole : length (lent .last .0) ≡ n = ? in
+    let back = c .before .before .before .before .before .before .bytes .given .0 in
     record {
       given = rw (c .before .before .number .ensures, c .before .before .before .of .ensures, copied);
       entries-there = copied;
-      bytes-fresh = front-fresh n (lent .last .0) _ whole (lent .ensures);
+      bytes-fresh = front-fresh (getD (start .args .numbers .now) 0 0) (start .args .bytes .now) (lent .last .0) _ (omega arith) back (lent .ensures);
     }
 
 pub answer-pages-spec : {M : Type 1} → statement M

@@ -92,7 +92,9 @@ returns-3 : tie.Need-returns-3 Inv-loop μ-loop
 returns-3 c = search needs
 
 returns-4 : tie.Need-returns-4 Inv-loop μ-loop
-returns-4 c = record { slots = c .before .before .before .loop .inv .2; some = omega arith; few = omega arith; first-fits = c .before .before .before .loop .inv .3 (omega arith) }
+returns-4 c =
+    let at-loop = c .before .before .before in
+    record { slots = at-loop .loop .inv .2; some = omega arith; few = omega arith; first-fits = at-loop .loop .inv .3 (omega arith) }
 
 pub read-numbers-spec : {M : Type 1} → statement M
 read-numbers-spec =

@@ -50,7 +50,17 @@ returns-5 : tie.Need-returns-5
 returns-5 c = c .before .same5 .ensures .0 (c .if5 .taken)
 
 returns-6 : tie.Need-returns-6
-returns-6 c = no-word _ (λ e. not-both _ (c .before .before .before .before .before .before .before .before .before .before .before .before .if1 .left) (c .before .before .before .before .before .before .before .before .before .before .before .before .before .same .ensures .1 e)) (λ e. not-both _ (c .before .before .before .before .before .before .before .before .before .if2 .left) (c .before .before .before .before .before .before .before .before .before .before .same2 .ensures .1 e)) (λ e. not-both _ (c .before .before .before .before .before .before .if3 .left) (c .before .before .before .before .before .before .before .same3 .ensures .1 e)) (λ e. not-both _ (c .before .before .before .if4 .left) (c .before .before .before .before .same4 .ensures .1 e)) (λ e. not-both _ (c .if5 .left) (c .before .same5 .ensures .1 e))
+returns-6 c =
+    let at-4 = c .before .before .before in
+    let at-3 = at-4 .before .before .before in
+    let at-2 = at-3 .before .before .before in
+    let at-1 = at-2 .before .before .before in
+    no-word _
+    (λ e. not-both _ (at-1 .if1 .left) (at-1 .before .same .ensures .1 e))
+    (λ e. not-both _ (at-2 .if2 .left) (at-2 .before .same2 .ensures .1 e))
+    (λ e. not-both _ (at-3 .if3 .left) (at-3 .before .same3 .ensures .1 e))
+    (λ e. not-both _ (at-4 .if4 .left) (at-4 .before .same4 .ensures .1 e))
+    (λ e. not-both _ (c .if5 .left) (c .before .same5 .ensures .1 e))
 
 pub read-word-spec : {M : Type 1} → statement M
 read-word-spec =

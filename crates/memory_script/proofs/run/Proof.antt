@@ -1,4 +1,4 @@
--- `memory_script::run` is safe and ends. The loop's invariant: the page list is within bounds, and no line is empty of bytes, so the count of lines fits. Assumes nothing.
+-- `memory_script::run` is safe and ends. The loop's invariant: the page list is within bounds. Each line takes a byte or more, so the count of lines fits. Assumes nothing.
 use Prim.Native.Nat.{_≤_, _+_, _-_}
 use mathlib.Core.Path.{_≡_}
 use lib.ListN.{length}
