@@ -5,7 +5,7 @@
 --     loaded, not-loaded      `load`, by what the memory's load gave
 --     touched, not-touched    `touch`, likewise
 --     stored, not-stored      `store`, by what trying gave
---     first-blocked, second-blocked, both-stored    two stores
+--     first-blocked, second-blocked, both-stored, none-stored, all-stored    two stores
 --     continues, breaks       one program after another, by how the first ends
 --     completes, faults       a whole operation, by how its program ends
 use Prim.Native.Nat.{ℕ}
@@ -20,8 +20,11 @@ use Rattle.memory.specs.declared.access.Reach.{Reach}
 use Rattle.memory.specs.declared.access.Reach.the-variants.{Ready, Blocked}
 use Rattle.memory.specs.declared.load.Loaded.the-variants.{Value, Blocked as Unloaded}
 use Rattle.memory.proofs.Laws.{loaded-value, loaded-failure}
+use native.Mathlib.Omega.{arith}
 use Rattle.processor.specs.Accesses.{blame}
-use Rattle.processor.specs.Prog.{Prog, done, stop, fetch, put, _>>=_, _>>_, load, touch, store, storeBoth, unless, onlyIf, Result, ended, broken, onReach, interp, Step, settle, operate}
+use Rattle.processor.specs.Outcomes.{storedOf}
+use Rattle.processor.specs.declared.stores.Stored.the-variants.{AllStored, NoneStored}
+use Rattle.processor.specs.Prog.{Prog, done, stop, fetch, put, _>>=_, _>>_, load, touch, store, storeBoth, unless, onlyIf, Result, ended, broken, onReach, left, interp, Step, settle, operate}
 use Rattle.processor.specs.declared.answer.Answer.the-variants.{Completed, Faulted}
 use Rattle.processor.specs.declared.answer.Fault.{Fault}
 use Rattle.processor.specs.declared.state.State.{State}
@@ -117,3 +120,12 @@ module _ (look : Lookup) (bytes : List ℕ) (first : Access) (u : ℕ) (second :
   pub both-stored : probe look first ≡ Ready → probe look second ≡ Ready → interp look (storeBoth first u second v) bytes ≡ ended tt (written look second v (written look first u bytes))
   unfolding interp
   both-stored r e = stored look bytes first u (store second v) r ∙ rw e
+
+-- what the outcome of two stores says of their program
+pub none-stored : (r : Result (Unit {0})) (fault : Fault) → NoneStored fault ≡ storedOf r → r ≡ broken fault
+none-stored (ended x after) fault e = let z : _≡_ {A = ℕ} 0 1 = cc in absurd (omega arith)
+none-stored (broken other) fault e = ap broken cc
+
+pub all-stored : (r : Result (Unit {0})) (bytes : List ℕ) → AllStored ≡ storedOf r → r ≡ ended tt (left r bytes)
+all-stored (ended x after) bytes e = refl
+all-stored (broken fault) bytes e = let z : _≡_ {A = ℕ} 0 1 = cc in absurd (omega arith)

@@ -1,4 +1,5 @@
 -- The ways through each operation: what the definition gives, by what the code found.
 mod IncsspWays
 mod RstorsspWays
+mod SaveprevsspWays
 mod WrssWays

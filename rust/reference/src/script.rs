@@ -549,6 +549,26 @@ mod tests {
             ("sum 8 0", 4),
             ("sum 8", 3),
             ("sum 8 0 0 0", 5),
+            ("blank", 2),
+            ("blank 12001", 2),
+            ("blank 1000 1001 -", 4),
+            ("state", 2),
+            ("state 0 0 0 0 0 0 0 0 0", 11),
+            ("state 0 0 0 0 0 0 0 0 0 ", 11),
+            ("state 0 0 0 0 0 0 0 0 0 0 0", 12),
+            ("state 0 0 0 0 0 X 0 0 0 0", 7),
+            ("word", 2),
+            ("word 0", 3),
+            ("word 0 0 0", 4),
+            ("do", 2),
+            ("do 0 1 0 0", 2),
+            ("do 9 1 0 0", 2),
+            ("do 100000001 1 0 0", 2),
+            ("do 1 0 0 0", 3),
+            ("do 1 10 0 0", 3),
+            ("do 1 1", 4),
+            ("do 1 1 0", 5),
+            ("do 1 1 0 0 0", 6),
         ] {
             assert_eq!(wrong_field(line), field, "{line:?}");
         }
@@ -561,6 +581,106 @@ mod tests {
         assert_eq!(wrong_field(&format!("{full} 0")), 21);
         assert_eq!(wrong_field(&format!("{full} x y")), 21);
         assert_eq!(wrong_field(&format!("{full} ")), 21);
+    }
+
+    #[test]
+    fn before_the_first_state() {
+        assert_eq!(
+            answers("do 1 1 0 0\ndo 7 1 0 0\nword 0 0"),
+            [
+                "fault 6 0 0 state 0 0 0 0 0 0 0 0 0 0",
+                "refusal 6",
+                "no page 0",
+            ]
+        );
+    }
+
+    #[test]
+    fn states_have_ranges() {
+        assert_eq!(
+            answers(
+                "state 2 3 1 ffffffffffffffff 0 1 2 4 5 ffffffff\nstate 3 0 0 0 0 0 0 0 0 0\n\
+                 do 1 1 0 0\ndo 4 1 1 0\nstate 1 0 0 0 0 0 0 100000000 0 0\nstate 0 0 0 0 0 0 0 0 0 0\n\
+                 do 1 1 0 0"
+            ),
+            [
+                "refusal 0",
+                "refusal 5",
+                "refusal 5",
+                "refusal 5",
+                "refusal 5",
+                "refusal 0",
+                "fault 6 0 0 state 0 0 0 0 0 0 0 0 0 0",
+            ]
+        );
+    }
+
+    #[test]
+    fn the_list_is_refused_before_the_state_and_the_state_before_the_form() {
+        assert_eq!(
+            answers(
+                "state 3 0 0 0 0 0 0 0 0 0\nblank 1000 1000\nword 1000 0\ndo 4 1 1 0\nblank 0\n\
+                 do 4 1 1 0\nstate 2 0 0 0 0 0 0 0 0 0\ndo 4 1 1 0\ndo 4 f 0 0"
+            ),
+            [
+                "refusal 5",
+                "refusal 2",
+                "refusal 2",
+                "refusal 2",
+                "refusal 0",
+                "refusal 5",
+                "refusal 0",
+                "refusal 6",
+                "fault 6 0 0 state 2 0 0 0 0 0 0 0 0 0",
+            ]
+        );
+    }
+
+    #[test]
+    fn words_count_as_changes() {
+        assert_eq!(
+            answers(
+                "blank 2000 2003 1001\nload 1 8 1 8 1000\nword 1ffc 807060504030201\nword 2ffc 1\n\
+                 state 2 3 1 3 0 0 0 0 0 0\ndo 5 3 1ff8 ffffffff11223344\ndo 5 3 2000 0\n\
+                 pages 1000 1001\ndo 6 3 1000 49a1f4083b2e2140"
+            ),
+            [
+                "refusal 0",
+                "value 0",
+                "set",
+                "no page 3000",
+                "refusal 0",
+                "completed state 2 3 1 3 0 3 0 0 0 0 0=5 1=6 2=7 3=8 \
+                 1ff8=44 1ff9=33 1ffa=22 1ffb=11 1ffc=1 1ffd=2 1ffe=3 1fff=4",
+                "fault e 0 2000 state 2 3 1 3 0 3 0 0 0 0 0=5 1=6 2=7 3=8 \
+                 1ff8=44 1ff9=33 1ffa=22 1ffb=11 1ffc=1 1ffd=2 1ffe=3 1fff=4",
+                "refusal 0",
+                // 7 14 21 2e 3b 48 55 62 were lent.
+                "completed state 2 3 1 3 0 6 0 0 0 0 \
+                 0=40 1=21 2=2e 3=3b 4=8 5=f4 6=a1 7=49",
+            ]
+        );
+    }
+
+    #[test]
+    fn state_and_bytes_go_on_to_the_next_line() {
+        assert_eq!(
+            answers(
+                "blank 2000 1001 2001\nstate 2 3 1 1 0 0 0 1ff0 0 0\nword 2ff0 2ff9\n\
+                 do 3 1 2ff0 0\ndo 4 1 0 0\nload 1 8 1 8 1fe8\nblank 1000 2001\ndo 1 1 0 1\ndo 1 1 0 2"
+            ),
+            [
+                "refusal 0",
+                "refusal 0",
+                "set",
+                "completed state 2 3 1 1 0 1 0 2ff0 0 0 1ff0=f3 1ff1=1f",
+                "completed state 2 3 1 1 0 2 0 2ff8 0 0 fe8=f1 fe9=1f 1ff0=f3 1ff1=1f",
+                "value 1ff1",
+                "refusal 0",
+                "completed state 2 3 1 1 0 3 0 2ffc 0 0",
+                "fault e 0 3000 state 2 3 1 1 0 3 0 2ffc 0 0",
+            ]
+        );
     }
 
     #[test]

@@ -1,3 +1,15 @@
+use Prim.Native.Nat.{_+_, _%_}
+use mathlib.Core.Path.{_≡_, sym, _∙_, ap}
+use mathlib.Core.Bool.{true, false}
+use native.Mathlib.Omega.{arith}
+use lib.ListN.{length as count}
+use borrow.Author.Tests.{eq-eqb, ne-eqb, lt-ltb, le-ltb, not-true, not-false}
+use Rattle.memory.specs.Access.{load as loadAt}
+use Rattle.memory.specs.Pages.{spot}
+use Rattle.memory.specs.declared.access.Size.the-variants.{Four, Eight}
+use Rattle.processor.specs.State.{longBit, usable, plus, minus}
+use Rattle.processor.specs.Accesses.{shadow}
+use Rattle.shadow.proofs.SaveprevsspWays.{not-usable, not-aligned, blocked, popped}
 use borrow.Author.Needs.{needs}
 use Rattle.shadow.proofs.saveprevssp.execute.Statement.{statement}
 use Rattle.shadow.proofs.saveprevssp.execute.Tie as tie
@@ -24,8 +36,16 @@ fail-requires : tie.Need-fail-requires
 fail-requires c κs = search needs
 
 -- src/saveprevssp.rt:96:9
+is-usable : (c : tie.Else1) → usable (c .before .before .before .before .args .state) ≡ true
+is-usable c = sym (c .before .usable .ensures) ∙ not-false _ (c .if1 .left)
+
+found : (c : tie.After-load) → loadAt (spot (c .before .before .before .before .before .before .before .before .before .args .pages .now) (count (c .before .before .before .before .before .before .before .before .before .args .bytes .now))) (c .before .before .before .before .before .before .before .before .before .args .bytes .now) (shadow (c .before .before .before .before .before .before .before .before .before .args .state) (c .before .before .before .before .before .before .before .before .before .args .state .ssp) Eight false) ≡ c .load .result
+found c = rw (← c .before .before .shadow .ensures) (sym (c .load .ensures))
+
 returns : tie.Need-returns
-returns c = ?
+returns c =
+    rw (c .fail .ensures, c .before .fault .ensures)
+    (sym (not-usable _ _ _ _ (sym (c .before .before .before .usable .ensures) ∙ not-true _ (c .before .before .if1 .taken))))
 
 -- src/saveprevssp.rt:99:27
 fault-requires-2 : tie.Need-fault-requires-2
@@ -37,7 +57,9 @@ fail-requires-2 c κs = search needs
 
 -- src/saveprevssp.rt:99:9
 returns-2 : tie.Need-returns-2
-returns-2 c = ?
+returns-2 c =
+    rw (c .fail2 .ensures, c .before .fault2 .ensures)
+    (sym (not-aligned _ _ _ _ (is-usable (c .before .before .before .before)) (c .before .before .if2 .taken)))
 
 -- src/saveprevssp.rt:101:9
 shadow-requires : tie.Need-shadow-requires
@@ -73,7 +95,9 @@ same-length c = search needs
 
 -- src/saveprevssp.rt:92:1
 returns-3 : tie.Need-returns-3
-returns-3 c = ?
+returns-3 c =
+    rw (c .fail3 .ensures, c .before .blame .ensures, c .before .before .before .before .before .before .before .shadow .ensures)
+    (sym (blocked _ _ _ _ (is-usable (c .before .before .before .before .before .before .before .before .before .before)) (c .before .before .before .before .before .before .before .before .if2 .left) _ (found (c .before .before .before .before .before) ∙ c .before .before .before .failure .given .1)))
 
 -- src/saveprevssp.rt:92:1
 same-length-2 : tie.Need-same-length-2
@@ -81,7 +105,9 @@ same-length-2 c = search needs
 
 -- src/saveprevssp.rt:92:1
 returns-4 : tie.Need-returns-4
-returns-4 c = ?
+returns-4 c =
+    c .before .before .leave-token .ensures
+    ∙ sym (popped _ _ _ _ (is-usable (c .before .before .before .before .before .before .before .before .before .before .before .before)) (c .before .before .before .before .before .before .before .before .before .before .if2 .left) _ (found (c .before .before .before .before .before .before .before) ∙ c .before .before .before .before .before .token .given .1))
 
 pub execute-spec : {M : Type 1} → statement M
 execute-spec =

@@ -1,3 +1,23 @@
+use Rattle.shadow.specs.declared.saveprevssp.Popped.{Popped}
+use Prim.Native.Nat.{ℕ, _+_, _%_}
+use mathlib.Core.Path.{_≡_, sym, _∙_, ap}
+use mathlib.Core.Bool.{true, false}
+use native.Mathlib.Omega.{arith}
+use lib.ListN.{length as count}
+use borrow.Author.Tests.{eq-eqb, ne-eqb, lt-ltb, le-ltb, not-true, not-false}
+use Rattle.memory.specs.Access.{load as loadAt}
+use Rattle.memory.specs.Pages.{spot}
+use Rattle.memory.specs.declared.access.Size.the-variants.{Four, Eight}
+use Rattle.processor.specs.State.{longBit, usable, plus, minus}
+use Rattle.processor.specs.Accesses.{shadow}
+use Rattle.shadow.proofs.SaveprevsspWays.{top-failed, not-saved, not-left, left-behind}
+use Rattle.processor.specs.Outcomes.{storedOf}
+use Rattle.processor.specs.Prog.{Result, interp, storeBoth, left}
+use Rattle.processor.proofs.Laws.{none-stored, all-stored}
+use Rattle.shadow.specs.Bits.{multiple}
+use Rattle.shadow.specs.Popped.{resultOf}
+use Rattle.shadow.specs.Saveprevssp.{newTop}
+use Rattle.shadow.proofs.IncsspWays.{long-small}
 use borrow.Author.Needs.{needs}
 use Rattle.shadow.proofs.saveprevssp.leave_token.Statement.{statement}
 use Rattle.shadow.proofs.saveprevssp.leave_token.Tie as tie
@@ -53,8 +73,24 @@ same-length : tie.Need-same-length
 same-length c = search needs
 
 -- src/saveprevssp.rt:76:17
+-- the new top, and the two stores, as the definition has them
+topped : (c : tie.After-new-top) → interp (spot (c .before .before .before .before .before .args .pages .now) (count (c .before .before .before .before .before .args .bytes .now))) (newTop (c .before .before .before .before .before .args .state) (plus (c .before .before .before .before .before .args .state) (c .before .before .before .before .before .args .state .ssp) 8)) (c .before .before .before .before .before .args .bytes .now) ≡ resultOf (c .new-top .result) (c .before .before .before .before .before .args .bytes .now)
+topped c = rw (← c .before .plus .ensures) (sym (c .new-top .ensures))
+
+abbrev the-stores : tie.After-store-both → Result (Unit {0})
+the-stores c =
+    let s = c .before .before .before .before .before .before .before .before .before .before .before .before .before .before .before .before .before .args .state in
+    let old : ℕ = multiple 4 (c .before .before .before .before .before .before .before .before .before .before .before .before .before .before .before .before .before .args .token) in
+    interp (spot (c .before .before .before .before .before .before .before .before .before .before .before .before .before .before .before .before .before .args .pages .now) (count (c .before .before .before .before .before .before .before .before .before .before .before .before .before .before .before .before .before .args .bytes .now))) (storeBoth (shadow s (minus s old 4) Four true) 0 (shadow s (minus s (multiple 8 old) 8) Eight true) (old + longBit s)) (c .before .before .before .before .before .before .before .before .before .before .before .before .before .before .before .before .before .args .bytes .now)
+
+stores : (c : tie.After-store-both) → (c .store-both .result ≡ storedOf (the-stores c)) × (c .store-both .last .1 .0 ≡ left (the-stores c) (c .before .before .before .before .before .before .before .before .before .before .before .before .before .before .before .before .before .args .bytes .now))
+stores c =
+    rw (c .before .before .before .shadow2 .ensures, c .before .before .before .before .minus2 .ensures, c .before .before .before .before .before .shadow .ensures, c .before .before .before .before .before .before .minus .ensures, c .before .long-bit .ensures) at (c .store-both .ensures)
+
 returns : tie.Need-returns
-returns c = ?
+returns c =
+    rw (c .fail2 .ensures, c .before .fault2 .ensures)
+    (sym (not-saved _ _ _ _ _ _ (topped (c .before .before .before .before .before .before .before) ∙ ap (λ (p : Popped). resultOf p (c .before .before .before .before .before .before .before .before .before .before .before .before .args .bytes .now)) (c .before .before .before .before .before .top .given .1)) (sym (c .before .before .before .saved-token .ensures) ∙ not-true _ (c .before .before .if1 .taken))))
 
 -- src/saveprevssp.rt:78:23
 sub-old : tie.Need-sub-old
@@ -86,7 +122,7 @@ long-bit-requires c κs = search needs
 
 -- src/saveprevssp.rt:81:71
 add-store-both : tie.Need-add-store-both
-add-store-both c = ?
+add-store-both c = omega (arith, c .long-bit .ensures, long-small (c .before .before .before .before .before .before .before .before .before .before .before .before .before .before .before .before .args .state), c .before .before .before .before .before .before .before .before .before .before .before .before .before .before .before .before .fits .token)
 
 -- src/saveprevssp.rt:81:19
 store-both-requires : tie.Need-store-both-requires
@@ -122,7 +158,8 @@ same-length-2 c = search needs
 
 -- src/saveprevssp.rt:69:1
 returns-2 : tie.Need-returns-2
-returns-2 c = ?
+returns-2 c =
+    rw (c .fail .ensures) (sym (top-failed _ _ _ _ _ _ (topped (c .before .before .before .before) ∙ ap (λ (p : Popped). resultOf p (c .before .before .before .before .before .before .before .before .before .args .bytes .now)) (c .before .before .fault .given .1))))
 
 -- src/saveprevssp.rt:69:1
 same-length-3 : tie.Need-same-length-3
@@ -130,7 +167,11 @@ same-length-3 c = search needs
 
 -- src/saveprevssp.rt:69:1
 returns-3 : tie.Need-returns-3
-returns-3 c = ?
+returns-3 c =
+    let both = stores (c .before .before .before .before .before .before) in
+    let e = none-stored (the-stores (c .before .before .before .before .before .before)) _ (sym (c .before .before .fault3 .given .1) ∙ both .0) in
+    rw (c .fail3 .ensures, both .1, e)
+    (sym (not-left _ _ _ _ _ _ (topped (c .before .before .before .before .before .before .before .before .before .before .before .before .before .before .before .before .before .before) ∙ ap (λ (p : Popped). resultOf p (c .before .before .before .before .before .before .before .before .before .before .before .before .before .before .before .before .before .before .before .before .before .before .before .args .bytes .now)) (c .before .before .before .before .before .before .before .before .before .before .before .before .before .before .before .before .top .given .1)) (sym (c .before .before .before .before .before .before .before .before .before .before .before .before .before .before .saved-token .ensures) ∙ not-false _ (c .before .before .before .before .before .before .before .before .before .before .before .before .before .if1 .left)) _ e))
 
 -- src/saveprevssp.rt:69:1
 same-length-4 : tie.Need-same-length-4
@@ -138,7 +179,10 @@ same-length-4 c = search needs
 
 -- src/saveprevssp.rt:69:1
 returns-4 : tie.Need-returns-4
-returns-4 c = ?
+returns-4 c =
+    let both = stores (c .before .before .before .before .before .before .before) in
+    rw (c .complete .ensures, c .before .next .ensures, c .before .before .with-ssp .ensures, both .1)
+    (sym (left-behind _ _ _ _ _ _ (topped (c .before .before .before .before .before .before .before .before .before .before .before .before .before .before .before .before .before .before .before) ∙ ap (λ (p : Popped). resultOf p (c .before .before .before .before .before .before .before .before .before .before .before .before .before .before .before .before .before .before .before .before .before .before .before .before .args .bytes .now)) (c .before .before .before .before .before .before .before .before .before .before .before .before .before .before .before .before .before .top .given .1)) (sym (c .before .before .before .before .before .before .before .before .before .before .before .before .before .before .before .saved-token .ensures) ∙ not-false _ (c .before .before .before .before .before .before .before .before .before .before .before .before .before .before .if1 .left)) _ (all-stored _ _ (sym (c .before .before .before .enum-told .given .1) ∙ both .0))))
 
 pub leave-token-spec : {M : Type 1} → statement M
 leave-token-spec =
