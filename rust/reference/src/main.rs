@@ -3,7 +3,7 @@
 #![deny(missing_docs)]
 #![forbid(unsafe_code)]
 
-use driftpocket_reference::{random, script};
+use driftpocket_reference::{random, random_operations, script};
 use std::io::{self, BufWriter, Read, Write};
 use std::process::ExitCode;
 
@@ -11,15 +11,19 @@ use std::process::ExitCode;
 const USAGE: &str = "\
 usage: reference memory < SCRIPT
        reference random SEED COUNT
-memory answers a memory script.
-random writes a memory script of COUNT lines; SEED and COUNT are decimal.";
+       reference random-operations SEED COUNT
+memory answers a script, of memory and of operations alike.
+random writes a script of COUNT lines about memory, random-operations one
+about operations; SEED and COUNT are decimal.";
 
 /// What the arguments ask for.
 enum Task {
-    /// Answer the memory script on standard input.
+    /// Answer the script on standard input.
     Memory,
-    /// Write a random memory script.
+    /// Write a random script about memory.
     Random { seed: u64, count: u64 },
+    /// Write a random script about operations.
+    RandomOperations { seed: u64, count: u64 },
 }
 
 fn main() -> ExitCode {
@@ -48,6 +52,10 @@ fn read_task(words: &[String]) -> Option<Task> {
             seed: read_decimal(seed)?,
             count: read_decimal(count)?,
         }),
+        [word, seed, count] if word == "random-operations" => Some(Task::RandomOperations {
+            seed: read_decimal(seed)?,
+            count: read_decimal(count)?,
+        }),
         _ => None,
     }
 }
@@ -65,12 +73,26 @@ fn carry_out(task: &Task) -> io::Result<()> {
         Task::Memory => output.write_all(&script::run(&read_input()?))?,
         Task::Random { seed, count } => {
             let mut author = random::Author::new(seed);
-            for _ in 0..count {
-                writeln!(output, "{}", author.line())?;
-            }
+            write_lines(&mut output, count, || author.line())?;
+        }
+        Task::RandomOperations { seed, count } => {
+            let mut author = random_operations::Author::new(seed);
+            write_lines(&mut output, count, || author.line())?;
         }
     }
     output.flush()
+}
+
+/// Writes so many lines, each made anew.
+fn write_lines(
+    output: &mut impl Write,
+    count: u64,
+    mut line: impl FnMut() -> String,
+) -> io::Result<()> {
+    for _ in 0..count {
+        writeln!(output, "{}", line())?;
+    }
+    Ok(())
 }
 
 /// Reads standard input, and one byte past the longest allowed at most.

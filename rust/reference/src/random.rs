@@ -122,14 +122,9 @@ impl Author {
         }
     }
 
-    /// A word and its numbers, now and then with all their leading zeros.
+    /// A word and its numbers.
     fn compose(&mut self, word: &str, numbers: &[u64]) -> String {
-        let mut line = word.to_string();
-        for number in numbers {
-            let padding = if self.dice.once_in(60) { 16 } else { 1 };
-            line.push_str(&format!(" {number:0padding$x}"));
-        }
-        line
+        compose(&mut self.dice, word, numbers)
     }
 
     /// A `sum` line of two numbers from the ends of things.
@@ -372,22 +367,7 @@ impl Author {
             return self.malformed_pages_line();
         }
         let line = self.work_line();
-        let mut fields: Vec<String> = line.split(' ').map(str::to_string).collect();
-        let index = self.dice.index(fields.len());
-        match self.dice.below(6) {
-            0 => fields.truncate(index.max(1)),
-            1 => fields.push(self.dice.one_of(&["0", "", "x"]).to_string()),
-            2 => fields.insert(index, String::new()),
-            3 => fields[index] = format!("{:017x}", self.dice.any()),
-            4 => {
-                fields[index] = self
-                    .dice
-                    .one_of(&["A", "0x1", "-1", "g", "1.", "="])
-                    .to_string()
-            }
-            _ => fields[index].push(self.dice.one_of(&['G', 'F', ',', '\t', '/', ':', '`', '@'])),
-        }
-        fields.join(" ")
+        mangle(&mut self.dice, &line)
     }
 
     /// A `pages` line that lends too much, lists too much or has a bad field.
@@ -404,6 +384,37 @@ impl Author {
         }
         line
     }
+}
+
+/// A word and its numbers, now and then with all their leading zeros.
+pub(crate) fn compose(dice: &mut Dice, word: &str, numbers: &[u64]) -> String {
+    let mut line = word.to_string();
+    for number in numbers {
+        let padding = if dice.once_in(60) { 16 } else { 1 };
+        line.push_str(&format!(" {number:0padding$x}"));
+    }
+    line
+}
+
+/// A line with something wrong in its fields, made from a good one.
+pub(crate) fn mangle(dice: &mut Dice, line: &str) -> String {
+    let mut fields: Vec<String> = line.split(' ').map(str::to_string).collect();
+    let index = dice.index(fields.len());
+    match dice.below(6) {
+        0 => fields.truncate(index.max(1)),
+        1 => fields.push(dice.one_of(&["0", "", "x"]).to_string()),
+        2 => fields.insert(index, String::new()),
+        3 => fields[index] = format!("{:017x}", dice.any()),
+        4 => {
+            let wrong = ["A", "0x1", "-1", "g", "1.", "="];
+            fields[index] = dice.one_of(&wrong).to_string();
+        }
+        _ => {
+            let wrong = ['G', 'F', ',', '\t', '/', ':', '`', '@'];
+            fields[index].push(dice.one_of(&wrong));
+        }
+    }
+    fields.join(" ")
 }
 
 #[cfg(test)]

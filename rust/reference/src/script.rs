@@ -299,6 +299,12 @@ impl Desk {
         }
     }
 
+    /// The fields of the state, in their ranges or not.
+    #[cfg(test)]
+    pub(crate) fn state(&self) -> [u64; FIELDS] {
+        self.fields
+    }
+
     /// Tries one instruction, and keeps what follows from it.
     pub(crate) fn attempt(&mut self, words: [u64; 4]) -> Attempt {
         let memory = match &mut self.memory {
@@ -642,7 +648,7 @@ mod tests {
             answers(
                 "blank 2000 2003 1001\nload 1 8 1 8 1000\nword 1ffc 807060504030201\nword 2ffc 1\n\
                  state 2 3 1 3 0 0 0 0 0 0\ndo 5 3 1ff8 ffffffff11223344\ndo 5 3 2000 0\n\
-                 pages 1000 1001\ndo 6 3 1000 49a1f4083b2e2140"
+                 pages 1000 1001\ndo 6 3 1000 49a1f4083b212140"
             ),
             [
                 "refusal 0",
@@ -655,9 +661,9 @@ mod tests {
                 "fault e 0 2000 state 2 3 1 3 0 3 0 0 0 0 0=5 1=6 2=7 3=8 \
                  1ff8=44 1ff9=33 1ffa=22 1ffb=11 1ffc=1 1ffd=2 1ffe=3 1fff=4",
                 "refusal 0",
-                // 7 14 21 2e 3b 48 55 62 were lent.
+                // 7 14 21 2e 3b 48 55 62 were lent, and 21 is lent again.
                 "completed state 2 3 1 3 0 6 0 0 0 0 \
-                 0=40 1=21 2=2e 3=3b 4=8 5=f4 6=a1 7=49",
+                 0=40 1=21 3=3b 4=8 5=f4 6=a1 7=49",
             ]
         );
     }

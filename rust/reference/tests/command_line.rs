@@ -29,6 +29,22 @@ fn memory_answers_its_input() {
 }
 
 #[test]
+fn memory_answers_operations() {
+    let output = reference(
+        &["memory"],
+        b"blank 1000 1001\nstate 2 3 1 3 0 0 0 0 0 0\ndo 5 4 1ffc 1a2\ndo 5 4 1ffe 0\n",
+    );
+    assert_eq!(
+        String::from_utf8(output.stdout).unwrap(),
+        "blank 1000 1001 -> refusal 0\n\
+         state 2 3 1 3 0 0 0 0 0 0 -> refusal 0\n\
+         do 5 4 1ffc 1a2 -> completed state 2 3 1 3 0 4 0 0 0 0 ffc=a2 ffd=1\n\
+         do 5 4 1ffe 0 -> fault d 0 0 state 2 3 1 3 0 4 0 0 0 0 ffc=a2 ffd=1\n"
+    );
+    assert_eq!(output.status.code(), Some(0));
+}
+
+#[test]
 fn memory_measures_its_input() {
     let longest = vec![b'#'; 262_144];
     let output = reference(&["memory"], &longest);
@@ -41,13 +57,15 @@ fn memory_measures_its_input() {
 
 #[test]
 fn random_writes_as_many_lines_as_asked() {
-    for count in ["0", "1", "250"] {
-        let first = reference(&["random", "18446744073709551615", count], b"");
-        let second = reference(&["random", "18446744073709551615", count], b"");
-        assert_eq!(first.stdout, second.stdout);
-        let lines = String::from_utf8(first.stdout).unwrap().lines().count();
-        assert_eq!(lines, count.parse::<usize>().unwrap());
-        assert_eq!(first.status.code(), Some(0));
+    for word in ["random", "random-operations"] {
+        for count in ["0", "1", "250"] {
+            let first = reference(&[word, "18446744073709551615", count], b"");
+            let second = reference(&[word, "18446744073709551615", count], b"");
+            assert_eq!(first.stdout, second.stdout);
+            let lines = String::from_utf8(first.stdout).unwrap().lines().count();
+            assert_eq!(lines, count.parse::<usize>().unwrap());
+            assert_eq!(first.status.code(), Some(0));
+        }
     }
 }
 
@@ -66,6 +84,9 @@ fn other_arguments_get_the_usage() {
         &["random", "+1", "2"],
         &["random", "", "2"],
         &["random", "1", "18446744073709551616"],
+        &["random-operations", "1"],
+        &["random-operations", "1", "0x2"],
+        &["random_operations", "1", "2"],
     ] {
         let output = reference(arguments, b"");
         assert_eq!(output.status.code(), Some(2), "{arguments:?}");

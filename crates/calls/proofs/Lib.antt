@@ -1,0 +1,3 @@
+-- Signed numbers, and the ways through the call.
+mod CallWays
+mod SignedNumbers

@@ -1,0 +1,104 @@
+// Near CALL: the target of a relative call, and the call itself.
+ghost use mathlib.Core.Path.{_≡_};
+ghost use lib.ListN.{length as count};
+ghost use Rattle.memory.specs.Pages.{spot};
+ghost use Rattle.processor.specs.Prog.{operate};
+ghost use Rattle.processor.specs.Outcomes.{stepOf};
+ghost use Rattle.calls.specs.Call.{displacement as displacementOf, moved as movedOf, relative as relativeOf, inCode, pushed as pushedOf, runsPast, call};
+use memory::Reach;
+use memory::Size;
+use processor::Outcome;
+use processor::State;
+use processor::Stored;
+use processor::Vector;
+
+// The displacement as a signed number: the low 32 bits of the operand in two's complement.
+fn displacement(a: u64) -> i64
+    ensures { λ r. ⌜ r ≡ displacementOf a ⌝ }
+{
+    let low = a % 0x1_0000_0000;
+    if low < 0x8000_0000 {
+        low as i64
+    } else {
+        low as i64 - 0x1_0000_0000
+    }
+}
+
+// A pointer moved by a signed number.
+fn moved(state: State, from: u64, by: i64) -> u64
+    ensures { λ r. ⌜ r ≡ movedOf state from by ⌝ }
+{
+    if by >= 0 {
+        state.plus(from, by as u64)
+    } else {
+        state.minus(from, (-1 - by) as u64 + 1)
+    }
+}
+
+// The target of a relative call.
+pub fn relative(state: State, a: u64, length: u64) -> u64
+    ensures { λ r. ⌜ r ≡ relativeOf state a length ⌝ }
+{
+    moved(state, state.next(length), displacement(a))
+}
+
+fn in_code(state: State, target: u64) -> bool
+    ensures { λ r. ⌜ r ≡ inCode state target ⌝ }
+{
+    if state.is_long() {
+        memory::canonical(target)
+    } else {
+        target <= state.limit
+    }
+}
+
+fn pushed(state: State) -> Size
+    ensures { λ r. ⌜ r ≡ pushedOf state ⌝ }
+{
+    if state.is_long() {
+        Size::Eight
+    } else {
+        Size::Four
+    }
+}
+
+fn runs_past(state: State, first: u64) -> bool
+    ensures { λ r. ⌜ r ≡ runsPast state first ⌝ }
+{
+    if state.is_long() {
+        return false;
+    }
+    first > 0xffff_fffc
+}
+
+// The call to a target. A relative call's target is that of `relative`.
+pub fn execute(state: State, pages: &[u64], bytes: &mut [u8], target: u64, length: u64) -> Outcome
+    ensures { λ r. ⌜ stepOf r (now (bytes .exit)) ≡ operate (spot (now (pages .entry)) (count (now (bytes .entry)))) (call target length state) state (now (bytes .entry)) ⌝ }
+{
+    if !in_code(state, target) {
+        return state.fail(processor::fault(Vector::Protection));
+    }
+    let size = pushed(state);
+    let sp = state.minus(state.sp, size.bytes());
+    if runs_past(state, sp) {
+        return state.fail(processor::fault(Vector::Stack));
+    }
+    let next = state.next(length);
+    let stack = state.ordinary(sp, size, true);
+    let called = state.with_sp(sp);
+    if !state.enabled() {
+        return match stack.store(pages, bytes, next) {
+            Reach::Blocked(failure) => state.fail(processor::blame(stack, failure)),
+            Reach::Ready => called.complete(target),
+        };
+    }
+    let ssp = state.minus(state.ssp, size.bytes());
+    let shadow = state.shadow(ssp, size, true);
+    match processor::store_both(pages, bytes, stack, next, shadow, next) {
+        Stored::NoneStored(fault) => state.fail(fault),
+        Stored::AllStored => {
+            let framed = called.with_ssp(ssp);
+            framed.complete(target)
+        }
+    }
+}

@@ -1,0 +1,3 @@
+// Near calls. Each operation takes the state whole and hands it back whole, with the answer; its contract gives the answer, the
+// registers and every lent byte, on faults too, by the operation's definition in specs/.
+pub mod call;
