@@ -1,7 +1,7 @@
 -- The ways through near CALL, each by the tests and stores on it. Assumes nothing.
 use Prim.Native.Nat.{ℕ}
-use mathlib.Core.Path.{_≡_, refl, sym, _∙_, ap}
-use mathlib.Core.Bool.{Bool, true, false, not, cond}
+use mathlib.Core.Path.{_≡_, _∙_, ap}
+use mathlib.Core.Bool.{Bool, true, false, not}
 use mathlib.Core.List.{List}
 use Rattle.memory.specs.Access.{byteCount, probe, written}
 use Rattle.memory.specs.Pages.{Lookup}
@@ -9,10 +9,10 @@ use Rattle.memory.specs.declared.access.Access.{Access}
 use Rattle.memory.specs.declared.access.Failure.{Failure}
 use Rattle.memory.specs.declared.access.Reach.the-variants.{Ready, Blocked}
 use Rattle.processor.specs.Answer.{ss, gp}
-use Rattle.processor.specs.State.{isLong, enabled, minus, next, withSp, withSsp}
+use Rattle.processor.specs.State.{enabled, minus, next, withSp, withSsp}
 use Rattle.processor.specs.Accesses.{shadow, ordinary, blame}
 use Rattle.processor.specs.Outcomes.{completed, faulted, stepOf}
-use Rattle.processor.specs.Prog.{Prog, _>>=_, _>>_, Result, ended, broken, store, storeBoth, onlyIf, interp, operate}
+use Rattle.processor.specs.Prog.{Prog, _>>=_, _>>_, ended, broken, store, storeBoth, onlyIf, interp, operate}
 use Rattle.processor.specs.declared.answer.Fault.{Fault}
 use Rattle.processor.specs.declared.state.State.{State}
 use Rattle.processor.proofs.Laws.{passed, halted, skipped, stored, not-stored, continues, breaks, completes, faults}

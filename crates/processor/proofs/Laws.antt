@@ -8,23 +8,27 @@
 --     first-blocked, second-blocked, both-stored, none-stored, all-stored    two stores
 --     continues, breaks       one program after another, by how the first ends
 --     completes, faults       a whole operation, by how its program ends
-use Prim.Native.Nat.{ℕ}
-use mathlib.Core.Path.{_≡_, refl, sym, _∙_, ap}
+--     some-bytes, long-small, product    small numbers
+use Prim.Native.Nat.{ℕ, _*_, _^_, _<_, _≤_}
+use mathlib.Core.Path.{_≡_, refl, _∙_, ap}
 use mathlib.Core.Bool.{Bool, true, false, cond}
 use mathlib.Core.List.{List}
-use Rattle.memory.specs.Access.{probe, value, written, load as loadAt}
+use native.Mathlib.Omega.{arith}
+use Rattle.memory.specs.Access.{byteCount, probe, value, written, load as loadAt}
 use Rattle.memory.specs.Pages.{Lookup}
 use Rattle.memory.specs.declared.access.Access.{Access}
 use Rattle.memory.specs.declared.access.Failure.{Failure}
 use Rattle.memory.specs.declared.access.Reach.{Reach}
 use Rattle.memory.specs.declared.access.Reach.the-variants.{Ready, Blocked}
+use Rattle.memory.specs.declared.access.Size.{Size}
+use Rattle.memory.specs.declared.access.Size.the-variants.{Four, Eight}
 use Rattle.memory.specs.declared.load.Loaded.the-variants.{Value, Blocked as Unloaded}
 use Rattle.memory.proofs.Laws.{loaded-value, loaded-failure}
-use native.Mathlib.Omega.{arith}
 use Rattle.processor.specs.Accesses.{blame}
 use Rattle.processor.specs.Outcomes.{storedOf}
 use Rattle.processor.specs.declared.stores.Stored.the-variants.{AllStored, NoneStored}
-use Rattle.processor.specs.Prog.{Prog, done, stop, fetch, put, _>>=_, _>>_, load, touch, store, storeBoth, unless, onlyIf, Result, ended, broken, onReach, left, interp, Step, settle, operate}
+use Rattle.processor.specs.Prog.{Prog, done, stop, fetch, put, _>>=_, _>>_, load, touch, store, storeBoth, unless, onlyIf, Result, ended, broken, onReach, left, interp, operate}
+use Rattle.processor.specs.State.{isLong, longBit}
 use Rattle.processor.specs.declared.answer.Answer.the-variants.{Completed, Faulted}
 use Rattle.processor.specs.declared.answer.Fault.{Fault}
 use Rattle.processor.specs.declared.state.State.{State}
@@ -129,3 +133,21 @@ none-stored (broken other) fault e = ap broken cc
 pub all-stored : (r : Result (Unit {0})) (bytes : List ℕ) → AllStored ≡ storedOf r → r ≡ ended tt (left r bytes)
 all-stored (ended x after) bytes e = refl
 all-stored (broken fault) bytes e = let z : _≡_ {A = ℕ} 0 1 = cc in absurd (omega arith)
+
+-- ---- small numbers
+
+pub some-bytes : (size : Size) → 0 < byteCount size
+some-bytes Four = omega arith
+some-bytes Eight = omega arith
+
+pub long-small : (s : State) → longBit s ≤ 1
+long-small s = go (isLong s)
+  where
+    go : (t : Bool) → cond t 1 0 ≤ 1
+    go true = omega arith
+    go false = omega arith
+
+-- up to 255 elements of a size fit a word
+pub product : (size : Size) (n : ℕ) → n < 256 → byteCount size * n < 2 ^ 64
+product Four n h = omega arith
+product Eight n h = omega arith

@@ -1,7 +1,7 @@
 -- The ways through INCSSP, each by the tests and loads on it. Assumes nothing.
-use Prim.Native.Nat.{ℕ, _-_, _*_, _%_, _^_, _<_, _≤_}
-use mathlib.Core.Path.{_≡_, sym, _∙_}
-use mathlib.Core.Bool.{Bool, true, false, cond}
+use Prim.Native.Nat.{ℕ, _-_, _*_, _%_}
+use mathlib.Core.Path.{_≡_, _∙_}
+use mathlib.Core.Bool.{true, false}
 use mathlib.Core.List.{List}
 use native.Mathlib.Omega.{arith}
 use lib.Dec.{ltb}
@@ -10,32 +10,15 @@ use Rattle.memory.specs.Access.{byteCount, load as loadAt}
 use Rattle.memory.specs.Pages.{Lookup}
 use Rattle.memory.specs.declared.access.Failure.{Failure}
 use Rattle.memory.specs.declared.access.Size.{Size}
-use Rattle.memory.specs.declared.access.Size.the-variants.{Four, Eight}
 use Rattle.memory.specs.declared.load.Loaded.the-variants.{Value, Blocked as Unloaded}
 use Rattle.processor.specs.Answer.{ud}
-use Rattle.processor.specs.State.{isLong, longBit, usable, plus, next, withIp, withSsp}
+use Rattle.processor.specs.State.{usable, plus, next, withSsp}
 use Rattle.processor.specs.Accesses.{shadow, blame}
 use Rattle.processor.specs.Outcomes.{completed, faulted, stepOf}
-use Rattle.processor.specs.Prog.{_>>=_, interp, operate}
+use Rattle.processor.specs.Prog.{interp, operate}
 use Rattle.processor.specs.declared.state.State.{State}
 use Rattle.processor.proofs.Laws.{passed, halted, entered, skipped, touched, not-touched, completes, faults}
 use Rattle.shadow.specs.Incssp.{incssp}
-
-pub some-bytes : (size : Size) → 0 < byteCount size
-some-bytes Four = omega arith
-some-bytes Eight = omega arith
-
-pub long-small : (s : State) → longBit s ≤ 1
-long-small s = go (isLong s)
-  where
-    go : (t : Bool) → cond t 1 0 ≤ 1
-    go true = omega arith
-    go false = omega arith
-
--- what is popped fits a word
-pub product : (size : Size) (n : ℕ) → n < 256 → byteCount size * n < 2 ^ 64
-product Four n h = omega arith
-product Eight n h = omega arith
 
 module _ (look : Lookup) (bytes : List ℕ) (size : Size) (b length : ℕ) (s : State) where
   pub not-usable : usable s ≡ false → operate look (incssp size b length s) s bytes ≡ stepOf (faulted s ud) bytes

@@ -1,5 +1,3 @@
 -- The ways through each operation: what the definition gives, by what the code found.
 mod IncsspWays
-mod RstorsspWays
-mod SaveprevsspWays
 mod WrssWays

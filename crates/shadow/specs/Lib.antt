@@ -1,7 +1,3 @@
--- The shadow stack operations, one to a file, as programs of loads and stores (docs/RULES.md, "The operations").
-pub mod Bits
+-- The operations on one shadow stack, as programs of loads and stores (docs/RULES.md, "The operations").
 pub mod Incssp
-pub mod Popped
-pub mod Rstorssp
-pub mod Saveprevssp
 pub mod Wrss

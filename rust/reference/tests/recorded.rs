@@ -33,3 +33,8 @@ fn the_boundary_script() {
 fn the_example() {
     assert_recorded("examples/three-pages.txt", "examples/three-pages.out");
 }
+
+#[test]
+fn the_operations() {
+    assert_recorded("examples/operations.txt", "examples/operations.out");
+}

@@ -1,72 +1,52 @@
 use borrow.Author.Needs.{needs}
 use Rattle.processor.proofs.outcome.blame.Statement.{statement}
 use Rattle.processor.proofs.outcome.blame.Tie as tie
-use Rattle.processor.proofs.outcome.blame.Reads as reads
-use Rattle.processor.proofs.outcome.blame.Lts as lts
-use Rattle.processor.proofs.outcome.fault.Reads as fault-reads
-use Rattle.processor.proofs.outcome.page_fault.Reads as page-fault-reads
 
--- src/outcome.rt:45:28
 enum-known-failure : tie.Need-enum-known-failure
 enum-known-failure c = search needs
 
--- src/outcome.rt:45:40
 page-fault-requires : tie.Need-page-fault-requires
 page-fault-requires c κs = search needs
 
--- src/outcome.rt:46:28
 enum-known-failure-2 : tie.Need-enum-known-failure-2
 enum-known-failure-2 c = search needs
 
--- src/outcome.rt:46:40
 page-fault-requires-2 : tie.Need-page-fault-requires-2
 page-fault-requires-2 c κs = search needs
 
--- src/outcome.rt:48:17
 enum-told : tie.Need-enum-told
 enum-told c = search needs
 
--- src/outcome.rt:50:43
 enum-told-2 : tie.Need-enum-told-2
 enum-told-2 c = search needs
 
--- src/outcome.rt:50:37
 fault-requires : tie.Need-fault-requires
 fault-requires c κs = search needs
 
--- src/outcome.rt:51:49
 enum-told-3 : tie.Need-enum-told-3
 enum-told-3 c = search needs
 
--- src/outcome.rt:51:43
 fault-requires-2 : tie.Need-fault-requires-2
 fault-requires-2 c κs = search needs
 
--- src/outcome.rt:52:41
 enum-told-4 : tie.Need-enum-told-4
 enum-told-4 c = search needs
 
--- src/outcome.rt:52:35
 fault-requires-3 : tie.Need-fault-requires-3
 fault-requires-3 c κs = search needs
 
--- src/outcome.rt:41:1
 returns : tie.Need-returns
 returns c = rw (c .before .before .failure .given .1) (c .page-fault .ensures)
 
--- src/outcome.rt:41:1
 returns-2 : tie.Need-returns-2
 returns-2 c = rw (c .before .before .failure2 .given .1) (c .page-fault2 .ensures)
 
--- src/outcome.rt:41:1
 returns-3 : tie.Need-returns-3
 returns-3 c = rw (c .before .before .before .enum-told .given .1, c .before .enum-told2 .given .1) (c .fault .ensures)
 
--- src/outcome.rt:41:1
 returns-4 : tie.Need-returns-4
 returns-4 c = rw (c .before .before .before .enum-told .given .1, c .before .enum-told3 .given .1) (c .fault2 .ensures)
 
--- src/outcome.rt:41:1
 returns-5 : tie.Need-returns-5
 returns-5 c = rw (c .before .before .before .enum-told .given .1, c .before .enum-told4 .given .1) (c .fault3 .ensures)
 

@@ -1,59 +1,43 @@
 use mathlib.Core.Path.{_≡_, sym, _∙_, ap}
 use lib.ListN.{length as count}
-use Rattle.memory.specs.Access.{store as storeAt, written}
+use borrow.Author.Needs.{needs}
+use Rattle.memory.specs.Access.{written}
 use Rattle.memory.specs.Pages.{spot}
 use Rattle.memory.proofs.Laws.{store-done, length-written}
 use Rattle.processor.proofs.Laws.{first-blocked, second-blocked, both-stored}
-use borrow.Author.Needs.{needs}
 use Rattle.processor.proofs.stores.store_both.Statement.{statement}
 use Rattle.processor.proofs.stores.store_both.Tie as tie
-use Rattle.processor.proofs.stores.store_both.Reads as reads
-use Rattle.processor.proofs.stores.store_both.Lts as lts
-use Rattle.memory.proofs.access.Access.probe.Reads as probe-reads
-use Rattle.memory.proofs.access.Access.store.Reads as store-reads
-use Rattle.processor.proofs.outcome.blame.Reads as blame-reads
 
--- src/stores.rt:29:11
 probe-requires : tie.Need-probe-requires
 probe-requires c κs = search needs
 
--- src/stores.rt:30:24
 enum-known-failure : tie.Need-enum-known-failure
 enum-known-failure c = search needs
 
--- src/stores.rt:30:55
 blame-requires : tie.Need-blame-requires
 blame-requires c κs = search needs
 
--- src/stores.rt:31:51
 enum-told : tie.Need-enum-told
 enum-told c = search needs
 
--- src/stores.rt:31:31
 probe-requires-2 : tie.Need-probe-requires-2
 probe-requires-2 c κs = search needs
 
--- src/stores.rt:32:28
 enum-known-failure-2 : tie.Need-enum-known-failure-2
 enum-known-failure-2 c = search needs
 
--- src/stores.rt:32:59
 blame-requires-2 : tie.Need-blame-requires-2
 blame-requires-2 c κs = search needs
 
--- src/stores.rt:34:46
 enum-told-2 : tie.Need-enum-told-2
 enum-told-2 c = search needs
 
--- src/stores.rt:34:21
 store-requires : tie.Need-store-requires
 store-requires c κs = search needs
 
--- src/stores.rt:35:21
 store-requires-2 : tie.Need-store-requires-2
 store-requires-2 c κs = search needs
 
--- src/stores.rt:18:1
 -- the bytes after the first store, and that there are as many
 once : (c : tie.After-store) → c .store .last .1 .1 .0 ≡ written (spot (c .before .before .before .before .before .before .before .before .before .before .args .pages .now) (count (c .before .before .before .before .before .before .before .before .before .before .args .bytes .now))) (c .before .before .before .before .before .before .before .before .before .before .args .first) (c .before .before .before .before .before .before .before .before .before .before .args .u) (c .before .before .before .before .before .before .before .before .before .before .args .bytes .now)
 once c = c .store .ensures .1 ∙ store-done (spot (c .before .before .before .before .before .before .before .before .before .before .args .pages .now) (count (c .before .before .before .before .before .before .before .before .before .before .args .bytes .now))) (c .before .before .before .before .before .before .before .before .before .before .args .bytes .now) (c .before .before .before .before .before .before .before .before .before .before .args .first) (c .before .before .before .before .before .before .before .before .before .before .args .u) (sym (c .before .before .before .before .before .before .before .probe .ensures) ∙ c .before .before .before .before .before .enum-told .given .1)
@@ -66,17 +50,14 @@ returns c =
     let e = first-blocked (spot (c .before .before .before .before .before .before .before .args .pages .now) (count (c .before .before .before .before .before .before .before .args .bytes .now))) (c .before .before .before .before .before .before .before .args .bytes .now) (c .before .before .before .before .before .before .before .args .first) (c .before .before .before .before .before .before .before .args .u) (c .before .before .before .before .before .before .before .args .second) (c .before .before .before .before .before .before .before .args .v) _ (sym (c .before .before .before .before .probe .ensures) ∙ c .before .before .failure .given .1) in
     (rw (e, c .blame .ensures), rw e)
 
--- src/stores.rt:18:1
 returns-2 : tie.Need-returns-2
 returns-2 c =
     let e = second-blocked (spot (c .before .before .before .before .before .before .before .before .before .before .args .pages .now) (count (c .before .before .before .before .before .before .before .before .before .before .args .bytes .now))) (c .before .before .before .before .before .before .before .before .before .before .args .bytes .now) (c .before .before .before .before .before .before .before .before .before .before .args .first) (c .before .before .before .before .before .before .before .before .before .before .args .u) (c .before .before .before .before .before .before .before .before .before .before .args .second) (c .before .before .before .before .before .before .before .before .before .before .args .v) _ (sym (c .before .before .before .before .before .before .before .probe .ensures) ∙ c .before .before .before .before .before .enum-told .given .1) (sym (c .before .before .before .before .probe2 .ensures) ∙ c .before .before .failure2 .given .1) in
     (rw (e, c .blame2 .ensures), rw e)
 
--- src/stores.rt:18:1
 same-length : tie.Need-same-length
 same-length c = search needs
 
--- src/stores.rt:18:1
 returns-3 : tie.Need-returns-3
 returns-3 c =
     let ready = sym (c .before .before .before .before .before .before .before .before .before .before .probe2 .ensures) ∙ c .before .before .before .before .before .before .before .before .enum-told2 .given .1 in

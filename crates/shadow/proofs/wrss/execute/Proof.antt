@@ -1,44 +1,28 @@
 use Prim.Native.Nat.{_%_}
 use mathlib.Core.Path.{_≡_, sym, _∙_}
-use mathlib.Core.Bool.{true, false}
-use native.Mathlib.Omega.{arith}
+use mathlib.Core.Bool.{true}
 use lib.ListN.{length as count}
 use borrow.Author.Tests.{not-true, not-false}
+use borrow.Author.Needs.{needs}
 use Rattle.memory.specs.Access.{byteCount, probe}
 use Rattle.memory.specs.Pages.{spot}
 use Rattle.memory.proofs.Laws.{store-done, store-failed}
 use Rattle.processor.specs.State.{usable}
 use Rattle.processor.specs.Accesses.{shadow}
-use Rattle.shadow.proofs.IncsspWays.{some-bytes}
+use Rattle.processor.proofs.Laws.{some-bytes}
 use Rattle.shadow.proofs.WrssWays.{not-usable, not-permitted, not-aligned, blocked, wrote}
-use borrow.Author.Needs.{needs}
 use Rattle.shadow.proofs.wrss.execute.Statement.{statement}
 use Rattle.shadow.proofs.wrss.execute.Tie as tie
-use Rattle.shadow.proofs.wrss.execute.Reads as reads
-use Rattle.shadow.proofs.wrss.execute.Lts as lts
-use Rattle.memory.proofs.access.Access.store.Reads as store-reads
-use Rattle.memory.proofs.access.Size.bytes.Reads as bytes-reads
-use Rattle.processor.proofs.blame.Reads as blame-reads
-use Rattle.processor.proofs.fault.Reads as fault-reads
-use Rattle.processor.proofs.state.State.complete.Reads as complete-reads
-use Rattle.processor.proofs.state.State.fail.Reads as fail-reads
-use Rattle.processor.proofs.state.State.next.Reads as next-reads
-use Rattle.processor.proofs.state.State.shadow.Reads as shadow-reads
-use Rattle.processor.proofs.state.State.usable.Reads as usable-reads
 
--- src/wrss.rt:27:9
 usable-requires : tie.Need-usable-requires
 usable-requires c κs = search needs
 
--- src/wrss.rt:28:27
 fault-requires : tie.Need-fault-requires
 fault-requires c κs = search needs
 
--- src/wrss.rt:28:9
 fail-requires : tie.Need-fail-requires
 fail-requires c κs = search needs
 
--- src/wrss.rt:28:9
 -- what is known after each test, and after the store
 is-usable : (c : tie.Else1) → usable (c .before .before .before .before .args .state) ≡ true
 is-usable c = sym (c .before .usable .ensures) ∙ not-false _ (c .if1 .left)
@@ -57,90 +41,70 @@ returns c =
     rw (c .fail .ensures, c .before .fault .ensures)
     (sym (not-usable _ _ _ _ _ _ _ _ (sym (c .before .before .before .usable .ensures) ∙ not-true _ (c .before .before .if1 .taken))))
 
--- src/wrss.rt:31:27
 fault-requires-2 : tie.Need-fault-requires-2
 fault-requires-2 c κs = search needs
 
--- src/wrss.rt:31:9
 fail-requires-2 : tie.Need-fail-requires-2
 fail-requires-2 c κs = search needs
 
--- src/wrss.rt:31:9
 returns-2 : tie.Need-returns-2
 returns-2 c =
     rw (c .fail2 .ensures, c .before .fault2 .ensures)
     (sym (not-permitted _ _ _ _ _ _ _ _ (is-usable (c .before .before .before)) (not-true _ (c .before .before .if2 .taken))))
 
--- src/wrss.rt:33:12
 bytes-requires : tie.Need-bytes-requires
 bytes-requires c κs = search needs
 
--- src/wrss.rt:33:8
 rem-if3 : tie.Need-rem-if3
 rem-if3 c = rw (c .bytes .ensures) (some-bytes (c .before .before .before .before .before .before .args .size))
 
--- src/wrss.rt:34:27
 fault-requires-3 : tie.Need-fault-requires-3
 fault-requires-3 c κs = search needs
 
--- src/wrss.rt:34:9
 fail-requires-3 : tie.Need-fail-requires-3
 fail-requires-3 c κs = search needs
 
--- src/wrss.rt:34:9
 returns-3 : tie.Need-returns-3
 returns-3 c =
     rw (c .fail3 .ensures, c .before .fault3 .ensures)
     (sym (not-aligned _ _ _ _ _ _ _ _ (is-usable (c .before .before .before .before .before)) (is-permitted (c .before .before .before .before)) (λ e. c .before .before .if3 .taken (rw (c .before .before .before .bytes .ensures) e))))
 
--- src/wrss.rt:36:9
 shadow-requires : tie.Need-shadow-requires
 shadow-requires c κs = search needs
 
--- src/wrss.rt:37:11
 store-requires : tie.Need-store-requires
 store-requires c κs = search needs
 
--- src/wrss.rt:38:24
 enum-known-failure : tie.Need-enum-known-failure
 enum-known-failure c = search needs
 
--- src/wrss.rt:38:47
 blame-requires : tie.Need-blame-requires
 blame-requires c κs = search needs
 
--- src/wrss.rt:38:36
 fail-requires-4 : tie.Need-fail-requires-4
 fail-requires-4 c κs = search needs
 
--- src/wrss.rt:39:40
 enum-told : tie.Need-enum-told
 enum-told c = search needs
 
--- src/wrss.rt:39:40
 next-requires : tie.Need-next-requires
 next-requires c κs = search needs
 
--- src/wrss.rt:39:25
 complete-requires : tie.Need-complete-requires
 complete-requires c κs = search needs
 
--- src/wrss.rt:15:1
 same-length : tie.Need-same-length
 same-length c = search needs
 
--- src/wrss.rt:15:1
 returns-4 : tie.Need-returns-4
 returns-4 c =
     let failed = tried (c .before .before .before .before .before .before .before) ∙ c .before .before .before .failure .given .1 in
     rw (c .fail4 .ensures, c .before .blame .ensures, c .before .before .before .before .before .before .before .store .ensures .1, c .before .before .before .before .before .before .before .before .before .shadow .ensures, store-failed _ _ _ _ _ failed)
     (sym (blocked _ _ _ _ _ _ _ _ (is-usable (c .before .before .before .before .before .before .before .before .before .before .before .before .before)) (is-permitted (c .before .before .before .before .before .before .before .before .before .before .before .before)) (is-aligned (c .before .before .before .before .before .before .before .before .before .before)) _ failed))
 
--- src/wrss.rt:15:1
 same-length-2 : tie.Need-same-length-2
 same-length-2 c = search needs
 
--- src/wrss.rt:15:1
 returns-5 : tie.Need-returns-5
 returns-5 c =
     let ready = tried (c .before .before .before .before .before .before) ∙ c .before .before .enum-told .given .1 in

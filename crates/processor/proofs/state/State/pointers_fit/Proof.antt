@@ -1,29 +1,21 @@
-use mathlib.Core.Path.{sym, _∙_, ap}
-use borrow.Author.Tests.{eq-eqb, ne-eqb, lt-ltb, le-ltb, le-leb, lt-leb}
+use mathlib.Core.Path.{sym, _∙_}
+use borrow.Author.Tests.{lt-ltb, le-ltb}
 use borrow.Author.Needs.{needs}
 use Rattle.processor.proofs.state.State.pointers_fit.Statement.{statement}
 use Rattle.processor.proofs.state.State.pointers_fit.Tie as tie
-use Rattle.processor.proofs.state.State.pointers_fit.Reads as reads
-use Rattle.processor.proofs.state.State.pointers_fit.Lts as lts
-use Rattle.processor.proofs.state.State.is_long.Reads as is-long-reads
 
--- src/state.rt:194:12
 is-long-requires : tie.Need-is-long-requires
 is-long-requires c κs = search needs
 
--- src/state.rt:195:13
 returns : tie.Need-returns
 returns c = rw (sym (c .before .is-long .ensures) ∙ c .if1 .taken)
 
--- src/state.rt:198:13
 returns-2 : tie.Need-returns-2
 returns-2 c = rw (sym (c .before .before .before .is-long .ensures) ∙ c .before .before .if1 .left, le-ltb _ _ (c .if2 .taken))
 
--- src/state.rt:201:13
 returns-3 : tie.Need-returns-3
 returns-3 c = rw (sym (c .before .before .before .before .before .is-long .ensures) ∙ c .before .before .before .before .if1 .left, lt-ltb _ _ (c .before .before .if2 .left), le-ltb _ _ (c .if3 .taken))
 
--- src/state.rt:191:5
 returns-4 : tie.Need-returns-4
 returns-4 c = rw (sym (c .before .before .before .before .before .before .is-long .ensures) ∙ c .before .before .before .before .before .if1 .left, lt-ltb _ _ (c .before .before .before .if2 .left), lt-ltb _ _ (c .before .if3 .left))
 

@@ -2,29 +2,19 @@ use mathlib.Core.Path.{sym, _∙_}
 use borrow.Author.Needs.{needs}
 use Rattle.processor.proofs.state.State.shadow.Statement.{statement}
 use Rattle.processor.proofs.state.State.shadow.Tie as tie
-use Rattle.processor.proofs.state.State.shadow.Reads as reads
-use Rattle.processor.proofs.state.State.shadow.Lts as lts
-use Rattle.processor.proofs.state.State.is_long.Reads as is-long-reads
-use Rattle.processor.proofs.state.State.is_user.Reads as is-user-reads
-use Rattle.processor.proofs.state.State.width.Reads as width-reads
 
--- src/state.rt:148:13
 is-user-requires : tie.Need-is-user-requires
 is-user-requires c κs = search needs
 
--- src/state.rt:149:13
 is-long-requires : tie.Need-is-long-requires
 is-long-requires c κs = search needs
 
--- src/state.rt:150:13
 width-requires : tie.Need-width-requires
 width-requires c κs = search needs
 
--- src/state.rt:152:13
 returns : tie.Need-returns
 returns c = rw (c .before .width .ensures, c .before .before .is-long .ensures, c .if1 .taken, sym (c .before .before .before .is-user .ensures) ∙ c .if1 .taken)
 
--- src/state.rt:145:5
 returns-2 : tie.Need-returns-2
 returns-2 c = rw (c .before .width .ensures, c .before .before .is-long .ensures, c .if1 .left, sym (c .before .before .before .is-user .ensures) ∙ c .if1 .left)
 

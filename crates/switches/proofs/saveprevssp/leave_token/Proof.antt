@@ -1,78 +1,52 @@
-use Rattle.shadow.specs.declared.saveprevssp.Popped.{Popped}
-use Prim.Native.Nat.{ℕ, _+_, _%_}
+use Prim.Native.Nat.{ℕ, _+_}
 use mathlib.Core.Path.{_≡_, sym, _∙_, ap}
-use mathlib.Core.Bool.{true, false}
+use mathlib.Core.Bool.{true}
 use native.Mathlib.Omega.{arith}
 use lib.ListN.{length as count}
-use borrow.Author.Tests.{eq-eqb, ne-eqb, lt-ltb, le-ltb, not-true, not-false}
-use Rattle.memory.specs.Access.{load as loadAt}
+use borrow.Author.Tests.{not-true, not-false}
+use borrow.Author.Needs.{needs}
 use Rattle.memory.specs.Pages.{spot}
 use Rattle.memory.specs.declared.access.Size.the-variants.{Four, Eight}
-use Rattle.processor.specs.State.{longBit, usable, plus, minus}
+use Rattle.processor.specs.State.{longBit, plus, minus}
 use Rattle.processor.specs.Accesses.{shadow}
-use Rattle.shadow.proofs.SaveprevsspWays.{top-failed, not-saved, not-left, left-behind}
 use Rattle.processor.specs.Outcomes.{storedOf}
 use Rattle.processor.specs.Prog.{Result, interp, storeBoth, left}
-use Rattle.processor.proofs.Laws.{none-stored, all-stored}
-use Rattle.shadow.specs.Bits.{multiple}
-use Rattle.shadow.specs.Popped.{resultOf}
-use Rattle.shadow.specs.Saveprevssp.{newTop}
-use Rattle.shadow.proofs.IncsspWays.{long-small}
-use borrow.Author.Needs.{needs}
-use Rattle.shadow.proofs.saveprevssp.leave_token.Statement.{statement}
-use Rattle.shadow.proofs.saveprevssp.leave_token.Tie as tie
-use Rattle.shadow.proofs.saveprevssp.leave_token.Reads as reads
-use Rattle.shadow.proofs.saveprevssp.leave_token.Lts as lts
-use Rattle.processor.proofs.fault.Reads as fault-reads
-use Rattle.processor.proofs.state.State.complete.Reads as complete-reads
-use Rattle.processor.proofs.state.State.fail.Reads as fail-reads
-use Rattle.processor.proofs.state.State.long_bit.Reads as long-bit-reads
-use Rattle.processor.proofs.state.State.minus.Reads as minus-reads
-use Rattle.processor.proofs.state.State.next.Reads as next-reads
-use Rattle.processor.proofs.state.State.plus.Reads as plus-reads
-use Rattle.processor.proofs.state.State.shadow.Reads as shadow-reads
-use Rattle.processor.proofs.state.State.with_ssp.Reads as with-ssp-reads
-use Rattle.processor.proofs.store_both.Reads as store-both-reads
-use Rattle.shadow.proofs.saveprevssp.new_top.Reads as new-top-reads
-use Rattle.shadow.proofs.saveprevssp.saved_token.Reads as saved-token-reads
+use Rattle.processor.proofs.Laws.{none-stored, all-stored, long-small}
+use Rattle.switches.specs.declared.saveprevssp.Popped.{Popped}
+use Rattle.switches.specs.Bits.{multiple}
+use Rattle.switches.specs.Popped.{resultOf}
+use Rattle.switches.specs.Saveprevssp.{newTop}
+use Rattle.switches.proofs.SaveprevsspWays.{top-failed, not-saved, not-left, left-behind}
+use Rattle.switches.proofs.saveprevssp.leave_token.Statement.{statement}
+use Rattle.switches.proofs.saveprevssp.leave_token.Tie as tie
 
--- src/saveprevssp.rt:72:40
 plus-requires : tie.Need-plus-requires
 plus-requires c κs = search needs
 
--- src/saveprevssp.rt:72:11
 new-top-requires : tie.Need-new-top-requires
 new-top-requires c κs = search needs
 
--- src/saveprevssp.rt:73:24
 enum-known-fault : tie.Need-enum-known-fault
 enum-known-fault c = search needs
 
--- src/saveprevssp.rt:73:34
 fail-requires : tie.Need-fail-requires
 fail-requires c κs = search needs
 
--- src/saveprevssp.rt:74:21
 enum-known-top : tie.Need-enum-known-top
 enum-known-top c = search needs
 
--- src/saveprevssp.rt:75:17
 saved-token-requires : tie.Need-saved-token-requires
 saved-token-requires c κs = search needs
 
--- src/saveprevssp.rt:76:35
 fault-requires : tie.Need-fault-requires
 fault-requires c κs = search needs
 
--- src/saveprevssp.rt:76:17
 fail-requires-2 : tie.Need-fail-requires-2
 fail-requires-2 c κs = search needs
 
--- src/saveprevssp.rt:76:17
 same-length : tie.Need-same-length
 same-length c = search needs
 
--- src/saveprevssp.rt:76:17
 -- the new top, and the two stores, as the definition has them
 topped : (c : tie.After-new-top) → interp (spot (c .before .before .before .before .before .args .pages .now) (count (c .before .before .before .before .before .args .bytes .now))) (newTop (c .before .before .before .before .before .args .state) (plus (c .before .before .before .before .before .args .state) (c .before .before .before .before .before .args .state .ssp) 8)) (c .before .before .before .before .before .args .bytes .now) ≡ resultOf (c .new-top .result) (c .before .before .before .before .before .args .bytes .now)
 topped c = rw (← c .before .plus .ensures) (sym (c .new-top .ensures))
@@ -92,80 +66,61 @@ returns c =
     rw (c .fail2 .ensures, c .before .fault2 .ensures)
     (sym (not-saved _ _ _ _ _ _ (topped (c .before .before .before .before .before .before .before) ∙ ap (λ (p : Popped). resultOf p (c .before .before .before .before .before .before .before .before .before .before .before .before .args .bytes .now)) (c .before .before .before .before .before .top .given .1)) (sym (c .before .before .before .saved-token .ensures) ∙ not-true _ (c .before .before .if1 .taken))))
 
--- src/saveprevssp.rt:78:23
 sub-old : tie.Need-sub-old
 sub-old c = search needs
 
--- src/saveprevssp.rt:79:37
 minus-requires : tie.Need-minus-requires
 minus-requires c κs = search needs
 
--- src/saveprevssp.rt:79:17
 shadow-requires : tie.Need-shadow-requires
 shadow-requires c κs = search needs
 
--- src/saveprevssp.rt:80:50
 sub-minus : tie.Need-sub-minus
 sub-minus c = search needs
 
--- src/saveprevssp.rt:80:38
 minus-requires-2 : tie.Need-minus-requires-2
 minus-requires-2 c κs = search needs
 
--- src/saveprevssp.rt:80:17
 shadow-requires-2 : tie.Need-shadow-requires-2
 shadow-requires-2 c κs = search needs
 
--- src/saveprevssp.rt:81:77
 long-bit-requires : tie.Need-long-bit-requires
 long-bit-requires c κs = search needs
 
--- src/saveprevssp.rt:81:71
 add-store-both : tie.Need-add-store-both
 add-store-both c = omega (arith, c .long-bit .ensures, long-small (c .before .before .before .before .before .before .before .before .before .before .before .before .before .before .before .before .args .state), c .before .before .before .before .before .before .before .before .before .before .before .before .before .before .before .before .fits .token)
 
--- src/saveprevssp.rt:81:19
 store-both-requires : tie.Need-store-both-requires
 store-both-requires c κs = search needs
 
--- src/saveprevssp.rt:82:36
 enum-known-fault-2 : tie.Need-enum-known-fault-2
 enum-known-fault-2 c = search needs
 
--- src/saveprevssp.rt:82:46
 fail-requires-3 : tie.Need-fail-requires-3
 fail-requires-3 c κs = search needs
 
--- src/saveprevssp.rt:84:25
 enum-told : tie.Need-enum-told
 enum-told c = search needs
 
--- src/saveprevssp.rt:84:25
 with-ssp-requires : tie.Need-with-ssp-requires
 with-ssp-requires c κs = search needs
 
--- src/saveprevssp.rt:85:36
 next-requires : tie.Need-next-requires
 next-requires c κs = search needs
 
--- src/saveprevssp.rt:85:21
 complete-requires : tie.Need-complete-requires
 complete-requires c κs = search needs
 
--- src/saveprevssp.rt:69:1
 same-length-2 : tie.Need-same-length-2
 same-length-2 c = search needs
 
--- src/saveprevssp.rt:69:1
 returns-2 : tie.Need-returns-2
 returns-2 c =
     rw (c .fail .ensures) (sym (top-failed _ _ _ _ _ _ (topped (c .before .before .before .before) ∙ ap (λ (p : Popped). resultOf p (c .before .before .before .before .before .before .before .before .before .args .bytes .now)) (c .before .before .fault .given .1))))
 
--- src/saveprevssp.rt:69:1
 same-length-3 : tie.Need-same-length-3
 same-length-3 c = search needs
 
--- src/saveprevssp.rt:69:1
 returns-3 : tie.Need-returns-3
 returns-3 c =
     let both = stores (c .before .before .before .before .before .before) in
@@ -173,11 +128,9 @@ returns-3 c =
     rw (c .fail3 .ensures, both .1, e)
     (sym (not-left _ _ _ _ _ _ (topped (c .before .before .before .before .before .before .before .before .before .before .before .before .before .before .before .before .before .before) ∙ ap (λ (p : Popped). resultOf p (c .before .before .before .before .before .before .before .before .before .before .before .before .before .before .before .before .before .before .before .before .before .before .before .args .bytes .now)) (c .before .before .before .before .before .before .before .before .before .before .before .before .before .before .before .before .top .given .1)) (sym (c .before .before .before .before .before .before .before .before .before .before .before .before .before .before .saved-token .ensures) ∙ not-false _ (c .before .before .before .before .before .before .before .before .before .before .before .before .before .if1 .left)) _ e))
 
--- src/saveprevssp.rt:69:1
 same-length-4 : tie.Need-same-length-4
 same-length-4 c = search needs
 
--- src/saveprevssp.rt:69:1
 returns-4 : tie.Need-returns-4
 returns-4 c =
     let both = stores (c .before .before .before .before .before .before .before) in

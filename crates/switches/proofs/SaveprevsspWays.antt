@@ -1,7 +1,7 @@
 -- The ways through SAVEPREVSSP, each by the tests and accesses on it. Assumes nothing.
 use Prim.Native.Nat.{ℕ, _+_, _%_}
-use mathlib.Core.Path.{_≡_, refl, sym, _∙_, ap}
-use mathlib.Core.Bool.{Bool, true, false, not, cond, _&&_}
+use mathlib.Core.Path.{_≡_, _∙_, ap}
+use mathlib.Core.Bool.{true, false, not, _&&_}
 use mathlib.Core.List.{List}
 use lib.Dec.{eqb}
 use borrow.Author.Tests.{eq-eqb, ne-eqb}
@@ -18,8 +18,8 @@ use Rattle.processor.specs.Prog.{ended, broken, storeBoth, interp, settle, oper
 use Rattle.processor.specs.declared.answer.Fault.{Fault}
 use Rattle.processor.specs.declared.state.State.{State}
 use Rattle.processor.proofs.Laws.{passed, halted, loaded, not-loaded, continues, breaks, completes, faults}
-use Rattle.shadow.specs.Bits.{multiple}
-use Rattle.shadow.specs.Saveprevssp.{carry, popHole, newTop, savedToken, leaveToken, saveprevssp}
+use Rattle.switches.specs.Bits.{multiple}
+use Rattle.switches.specs.Saveprevssp.{carry, popHole, newTop, savedToken, leaveToken, saveprevssp}
 
 -- ---- the hole
 

@@ -10,7 +10,7 @@ use Rattle.processor.specs.State.{isLong, longBit, usable, plus, next, withIp, 
 use Rattle.processor.specs.Accesses.{shadow}
 use Rattle.processor.specs.Prog.{Prog, done, _>>=_, _>>_, load, store, unless}
 use Rattle.processor.specs.declared.state.State.{State}
-use Rattle.shadow.specs.Bits.{bit, clear, multiple}
+use Rattle.switches.specs.Bits.{bit, clear, multiple}
 
 -- where a restore token must stand: bit 0 cleared, less 8 modulo 2^64 in either mode, rounded down to a multiple of 8
 unfoldable pub home : ℕ → ℕ

@@ -2,8 +2,8 @@
 use Prim.Native.Nat.{ℕ}
 use mathlib.Core.List.{List}
 use Rattle.processor.specs.Prog.{Result, ended, broken}
-use Rattle.shadow.specs.declared.saveprevssp.Popped.{Popped}
-use Rattle.shadow.specs.declared.saveprevssp.Popped.the-variants.{Top, Failed}
+use Rattle.switches.specs.declared.saveprevssp.Popped.{Popped}
+use Rattle.switches.specs.declared.saveprevssp.Popped.the-variants.{Top, Failed}
 
 abbrev pub resultOf : Popped → List ℕ → Result ℕ
 resultOf (Top top) bytes = ended top bytes

@@ -8,7 +8,7 @@ use Rattle.processor.specs.State.{isLong, longBit, usable, plus, minus, next, w
 use Rattle.processor.specs.Accesses.{shadow}
 use Rattle.processor.specs.Prog.{Prog, done, _>>=_, _>>_, load, storeBoth, unless}
 use Rattle.processor.specs.declared.state.State.{State}
-use Rattle.shadow.specs.Bits.{bit, multiple}
+use Rattle.switches.specs.Bits.{bit, multiple}
 
 -- CF
 abbrev pub carry : State → Bool

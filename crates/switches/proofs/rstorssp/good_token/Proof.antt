@@ -1,25 +1,17 @@
 use Prim.Native.Nat.{_%_}
 use mathlib.Core.Bool.{true}
-use lib.Dec.{eqb}
-use Rattle.processor.specs.State.{longBit}
 use mathlib.Core.Path.{_≡_, sym, _∙_}
-use native.Mathlib.Omega.{arith}
-use borrow.Author.Tests.{eq-eqb, ne-eqb, lt-ltb, le-ltb, not-true, not-false}
-use Rattle.shadow.specs.Rstorssp.{goodToken}
+use lib.Dec.{eqb}
+use borrow.Author.Tests.{eq-eqb, ne-eqb, lt-ltb, le-ltb}
 use borrow.Author.Needs.{needs}
-use Rattle.shadow.proofs.rstorssp.good_token.Statement.{statement}
-use Rattle.shadow.proofs.rstorssp.good_token.Tie as tie
-use Rattle.shadow.proofs.rstorssp.good_token.Reads as reads
-use Rattle.shadow.proofs.rstorssp.good_token.Lts as lts
-use Rattle.processor.proofs.state.State.is_long.Reads as is-long-reads
-use Rattle.processor.proofs.state.State.long_bit.Reads as long-bit-reads
-use Rattle.shadow.proofs.rstorssp.home.Reads as home-reads
+use Rattle.processor.specs.State.{longBit}
+use Rattle.switches.specs.Rstorssp.{goodToken}
+use Rattle.switches.proofs.rstorssp.good_token.Statement.{statement}
+use Rattle.switches.proofs.rstorssp.good_token.Tie as tie
 
--- src/rstorssp.rt:28:21
 long-bit-requires : tie.Need-long-bit-requires
 long-bit-requires c κs = search needs
 
--- src/rstorssp.rt:29:9
 -- the first condition holds
 low-bits : (c : tie.Else1) → eqb (c .before .before .args .token % 4) (longBit (c .before .before .args .state)) ≡ true
 low-bits c = eq-eqb (c .before .before .args .token % 4) (longBit (c .before .before .args .state)) (c .if1 .left ∙ c .before .long-bit .ensures)
@@ -28,29 +20,23 @@ returns : tie.Need-returns
 unfolding goodToken
 returns c = rw (ne-eqb (c .before .before .args .token % 4) (longBit (c .before .before .args .state)) (λ e. c .if1 .taken (e ∙ sym (c .before .long-bit .ensures))))
 
--- src/rstorssp.rt:31:8
 is-long-requires : tie.Need-is-long-requires
 is-long-requires c κs = search needs
 
--- src/rstorssp.rt:32:16
 home-requires : tie.Need-home-requires
 home-requires c κs = search needs
 
--- src/rstorssp.rt:32:9
 returns-2 : tie.Need-returns-2
 unfolding goodToken
 returns-2 c = rw (low-bits (c .before .before .before), sym (c .before .before .is-long .ensures) ∙ c .before .if2 .taken, c .home .ensures)
 
--- src/rstorssp.rt:35:9
 returns-3 : tie.Need-returns-3
 unfolding goodToken
 returns-3 c = rw (low-bits (c .before .before .before), sym (c .before .before .is-long .ensures) ∙ c .before .if2 .left, le-ltb _ _ (c .if3 .taken))
 
--- src/rstorssp.rt:37:5
 home-requires-2 : tie.Need-home-requires-2
 home-requires-2 c κs = search needs
 
--- src/rstorssp.rt:25:1
 returns-4 : tie.Need-returns-4
 unfolding goodToken
 returns-4 c = rw (low-bits (c .before .before .before .before), sym (c .before .before .before .is-long .ensures) ∙ c .before .before .if2 .left, lt-ltb _ _ (c .before .if3 .left), c .home2 .ensures)

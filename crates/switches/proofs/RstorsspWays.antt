@@ -1,6 +1,6 @@
 -- The ways through RSTORSSP, each by the tests and the load on it. Assumes nothing.
 use Prim.Native.Nat.{ℕ, _+_, _%_}
-use mathlib.Core.Path.{_≡_, sym, _∙_}
+use mathlib.Core.Path.{_≡_, _∙_}
 use mathlib.Core.Bool.{true, false}
 use mathlib.Core.List.{List}
 use lib.Dec.{eqb}
@@ -18,8 +18,8 @@ use Rattle.processor.specs.Outcomes.{completed, faulted, stepOf}
 use Rattle.processor.specs.Prog.{interp, operate}
 use Rattle.processor.specs.declared.state.State.{State}
 use Rattle.processor.proofs.Laws.{passed, halted, loaded, not-loaded, stored, completes, faults}
-use Rattle.shadow.specs.Bits.{bit}
-use Rattle.shadow.specs.Rstorssp.{goodToken, restoredFlags, rstorssp}
+use Rattle.switches.specs.Bits.{bit}
+use Rattle.switches.specs.Rstorssp.{goodToken, restoredFlags, rstorssp}
 
 module _ (look : Lookup) (bytes : List ℕ) (a length : ℕ) (s : State) where
   pub not-usable : usable s ≡ false → operate look (rstorssp a length s) s bytes ≡ stepOf (faulted s ud) bytes

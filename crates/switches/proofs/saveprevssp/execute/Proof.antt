@@ -1,41 +1,26 @@
-use Prim.Native.Nat.{_+_, _%_}
-use mathlib.Core.Path.{_≡_, sym, _∙_, ap}
+use mathlib.Core.Path.{_≡_, sym, _∙_}
 use mathlib.Core.Bool.{true, false}
-use native.Mathlib.Omega.{arith}
 use lib.ListN.{length as count}
-use borrow.Author.Tests.{eq-eqb, ne-eqb, lt-ltb, le-ltb, not-true, not-false}
+use borrow.Author.Tests.{not-true, not-false}
+use borrow.Author.Needs.{needs}
 use Rattle.memory.specs.Access.{load as loadAt}
 use Rattle.memory.specs.Pages.{spot}
-use Rattle.memory.specs.declared.access.Size.the-variants.{Four, Eight}
-use Rattle.processor.specs.State.{longBit, usable, plus, minus}
+use Rattle.memory.specs.declared.access.Size.the-variants.{Eight}
+use Rattle.processor.specs.State.{usable}
 use Rattle.processor.specs.Accesses.{shadow}
-use Rattle.shadow.proofs.SaveprevsspWays.{not-usable, not-aligned, blocked, popped}
-use borrow.Author.Needs.{needs}
-use Rattle.shadow.proofs.saveprevssp.execute.Statement.{statement}
-use Rattle.shadow.proofs.saveprevssp.execute.Tie as tie
-use Rattle.shadow.proofs.saveprevssp.execute.Reads as reads
-use Rattle.shadow.proofs.saveprevssp.execute.Lts as lts
-use Rattle.memory.proofs.access.Access.load.Reads as load-reads
-use Rattle.processor.proofs.blame.Reads as blame-reads
-use Rattle.processor.proofs.fault.Reads as fault-reads
-use Rattle.processor.proofs.state.State.fail.Reads as fail-reads
-use Rattle.processor.proofs.state.State.shadow.Reads as shadow-reads
-use Rattle.processor.proofs.state.State.usable.Reads as usable-reads
-use Rattle.shadow.proofs.saveprevssp.leave_token.Reads as leave-token-reads
+use Rattle.switches.proofs.SaveprevsspWays.{not-usable, not-aligned, blocked, popped}
+use Rattle.switches.proofs.saveprevssp.execute.Statement.{statement}
+use Rattle.switches.proofs.saveprevssp.execute.Tie as tie
 
--- src/saveprevssp.rt:95:9
 usable-requires : tie.Need-usable-requires
 usable-requires c κs = search needs
 
--- src/saveprevssp.rt:96:27
 fault-requires : tie.Need-fault-requires
 fault-requires c κs = search needs
 
--- src/saveprevssp.rt:96:9
 fail-requires : tie.Need-fail-requires
 fail-requires c κs = search needs
 
--- src/saveprevssp.rt:96:9
 is-usable : (c : tie.Else1) → usable (c .before .before .before .before .args .state) ≡ true
 is-usable c = sym (c .before .usable .ensures) ∙ not-false _ (c .if1 .left)
 
@@ -47,63 +32,49 @@ returns c =
     rw (c .fail .ensures, c .before .fault .ensures)
     (sym (not-usable _ _ _ _ (sym (c .before .before .before .usable .ensures) ∙ not-true _ (c .before .before .if1 .taken))))
 
--- src/saveprevssp.rt:99:27
 fault-requires-2 : tie.Need-fault-requires-2
 fault-requires-2 c κs = search needs
 
--- src/saveprevssp.rt:99:9
 fail-requires-2 : tie.Need-fail-requires-2
 fail-requires-2 c κs = search needs
 
--- src/saveprevssp.rt:99:9
 returns-2 : tie.Need-returns-2
 returns-2 c =
     rw (c .fail2 .ensures, c .before .fault2 .ensures)
     (sym (not-aligned _ _ _ _ (is-usable (c .before .before .before .before)) (c .before .before .if2 .taken)))
 
--- src/saveprevssp.rt:101:9
 shadow-requires : tie.Need-shadow-requires
 shadow-requires c κs = search needs
 
--- src/saveprevssp.rt:102:11
 load-requires : tie.Need-load-requires
 load-requires c κs = search needs
 
--- src/saveprevssp.rt:103:25
 enum-known-failure : tie.Need-enum-known-failure
 enum-known-failure c = search needs
 
--- src/saveprevssp.rt:103:48
 blame-requires : tie.Need-blame-requires
 blame-requires c κs = search needs
 
--- src/saveprevssp.rt:103:37
 fail-requires-3 : tie.Need-fail-requires-3
 fail-requires-3 c κs = search needs
 
--- src/saveprevssp.rt:104:23
 enum-known-token : tie.Need-enum-known-token
 enum-known-token c = search needs
 
--- src/saveprevssp.rt:104:33
 leave-token-requires : tie.Need-leave-token-requires
 leave-token-requires c κs = search needs
 
--- src/saveprevssp.rt:92:1
 same-length : tie.Need-same-length
 same-length c = search needs
 
--- src/saveprevssp.rt:92:1
 returns-3 : tie.Need-returns-3
 returns-3 c =
     rw (c .fail3 .ensures, c .before .blame .ensures, c .before .before .before .before .before .before .before .shadow .ensures)
     (sym (blocked _ _ _ _ (is-usable (c .before .before .before .before .before .before .before .before .before .before)) (c .before .before .before .before .before .before .before .before .if2 .left) _ (found (c .before .before .before .before .before) ∙ c .before .before .before .failure .given .1)))
 
--- src/saveprevssp.rt:92:1
 same-length-2 : tie.Need-same-length-2
 same-length-2 c = search needs
 
--- src/saveprevssp.rt:92:1
 returns-4 : tie.Need-returns-4
 returns-4 c =
     c .before .before .leave-token .ensures

@@ -1,0 +1,3 @@
+-- The ways through each operation: what the definition gives, by what the code found.
+mod RstorsspWays
+mod SaveprevsspWays

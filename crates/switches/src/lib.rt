@@ -1,0 +1,6 @@
+// The two halves of a switch between shadow stacks: RSTORSSP and SAVEPREVSSP, one to a file.
+//
+// Each takes the state whole and hands it back whole, with the answer; its contract gives the answer, the registers and every
+// lent byte, on faults too, by the operation's definition in specs/.
+pub mod rstorssp;
+pub mod saveprevssp;
