@@ -12,13 +12,17 @@ use Rattle.processor.specs.State.{isLong, widthOf, userMode}
 use Rattle.processor.specs.declared.answer.Fault.{Fault}
 use Rattle.processor.specs.declared.state.State.{State}
 
--- a shadow access reaches kind 1 at CPL 3 and kind 2 below; in mode 2 every byte must be canonical
+-- an access of this mode and privilege: in mode 2 every byte must be canonical
+abbrev pub accessOf : State → Kind → ℕ → Size → Bool → Access
+accessOf s kind first size store = record { kind = kind; store = store; user = userMode s; first = first; size = size; width = widthOf s; canonical = isLong s }
+
+-- a shadow access reaches kind 1 at CPL 3 and kind 2 below
 abbrev pub shadow : State → ℕ → Size → Bool → Access
-shadow s first size store = record { kind = cond (userMode s) UserShadow SupervisorShadow; store = store; user = userMode s; first = first; size = size; width = widthOf s; canonical = isLong s }
+shadow s = accessOf s (cond (userMode s) UserShadow SupervisorShadow)
 
 -- an ordinary access reaches kind 3 at any CPL
 abbrev pub ordinary : State → ℕ → Size → Bool → Access
-ordinary s first size store = record { kind = Ordinary; store = store; user = userMode s; first = first; size = size; width = widthOf s; canonical = isLong s }
+ordinary s = accessOf s Ordinary
 
 -- a byte that is not canonical: #GP(0) of a shadow access, #SS(0) of a push on the ordinary stack
 abbrev pub notCanonical : Kind → Fault

@@ -14,7 +14,6 @@ pub use outcome::Outcome;
 pub use outcome::blame;
 pub use outcome::control_fault;
 pub use outcome::fault;
-pub use outcome::page_fault;
 pub use state::State;
 pub use stores::Stored;
 pub use stores::store_both;

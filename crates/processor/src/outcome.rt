@@ -38,7 +38,7 @@ pub fn control_fault(code: u64) -> Fault
     }
 }
 
-pub fn page_fault(address: u64) -> Fault
+fn page_fault(address: u64) -> Fault
     ensures { λ r. ⌜ r ≡ pageFault address ⌝ }
 {
     Fault {

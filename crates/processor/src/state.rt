@@ -1,7 +1,7 @@
 // The processor's state: ten numbers, and what the rules read off them.
 ghost use mathlib.Core.Path.{_≡_};
-ghost use Rattle.processor.specs.State.{isLong, longBit, widthOf, plus as plusOf, minus as minusOf, userMode, register as registerOf, enabled as enabledOf, usable as usableOf, permitted as permittedOf, next as nextOf, pointersFit, inRange as inRangeOf, withIp, withSp, withSsp, withFlags};
-ghost use Rattle.processor.specs.Accesses.{shadow as shadowOf, ordinary as ordinaryOf};
+ghost use Rattle.processor.specs.State.{isLong, longBit, widthOf, plus as plusOf, minus as minusOf, userMode, register as registerOf, enabled as enabledOf, usable as usableOf, permitted as permittedOf, next as nextOf, pointersFit, inRange as inRangeOf, withSp, withSsp, withFlags};
+ghost use Rattle.processor.specs.Accesses.{accessOf, shadow as shadowOf, ordinary as ordinaryOf};
 use memory::Access;
 use memory::Kind;
 use memory::Size;
@@ -40,7 +40,7 @@ impl State {
         if self.is_long() { 1 } else { 0 }
     }
 
-    pub fn width(self) -> Width
+    fn width(self) -> Width
         ensures { λ r. ⌜ r ≡ widthOf self ⌝ }
     {
         if self.is_long() {
@@ -64,14 +64,14 @@ impl State {
         self.width().minus(a, b)
     }
 
-    pub fn is_user(self) -> bool
+    fn is_user(self) -> bool
         ensures { λ r. ⌜ r ≡ userMode self ⌝ }
     {
         self.cpl == 3
     }
 
     // The CET register of this CPL.
-    pub fn register(self) -> u64
+    fn register(self) -> u64
         ensures { λ r. ⌜ r ≡ registerOf self ⌝ }
     {
         if self.is_user() { self.ucet } else { self.scet }
@@ -113,13 +113,6 @@ impl State {
         self.plus(self.ip, length)
     }
 
-    pub fn with_ip(mut self, ip: u64) -> State
-        ensures { λ r. ⌜ r ≡ withIp self ip ⌝ }
-    {
-        self.ip = ip;
-        self
-    }
-
     pub fn with_sp(mut self, sp: u64) -> State
         ensures { λ r. ⌜ r ≡ withSp self sp ⌝ }
     {
@@ -141,32 +134,32 @@ impl State {
         self
     }
 
-    // An access to the shadow stack of this CPL.
-    pub fn shadow(self, first: u64, size: Size, store: bool) -> Access
-        ensures { λ r. ⌜ r ≡ shadowOf self first size store ⌝ }
+    // An access of this mode and privilege: in 64-bit mode its bytes must be canonical.
+    fn access(self, kind: Kind, first: u64, size: Size, store: bool) -> Access
+        ensures { λ r. ⌜ r ≡ accessOf self kind first size store ⌝ }
     {
         let user = self.is_user();
-        let long = self.is_long();
         let width = self.width();
-        if user {
-            return Access {
-                kind: Kind::UserShadow,
-                store,
-                user,
-                first,
-                size,
-                width,
-                canonical: long,
-            };
-        }
+        let canonical = self.is_long();
         Access {
-            kind: Kind::SupervisorShadow,
+            kind,
             store,
             user,
             first,
             size,
             width,
-            canonical: long,
+            canonical,
+        }
+    }
+
+    // An access to the shadow stack of this CPL.
+    pub fn shadow(self, first: u64, size: Size, store: bool) -> Access
+        ensures { λ r. ⌜ r ≡ shadowOf self first size store ⌝ }
+    {
+        if self.is_user() {
+            self.access(Kind::UserShadow, first, size, store)
+        } else {
+            self.access(Kind::SupervisorShadow, first, size, store)
         }
     }
 
@@ -174,18 +167,7 @@ impl State {
     pub fn ordinary(self, first: u64, size: Size, store: bool) -> Access
         ensures { λ r. ⌜ r ≡ ordinaryOf self first size store ⌝ }
     {
-        let user = self.is_user();
-        let long = self.is_long();
-        let width = self.width();
-        Access {
-            kind: Kind::Ordinary,
-            store,
-            user,
-            first,
-            size,
-            width,
-            canonical: long,
-        }
+        self.access(Kind::Ordinary, first, size, store)
     }
 
     fn pointers_fit(self) -> bool

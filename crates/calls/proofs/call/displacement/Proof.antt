@@ -1,3 +1,4 @@
+-- `displacement` meets its contract: below 2^31 the number itself, else less 2^32. Assumes nothing.
 use Prim.Native.Nat.{ℕ, _%_, _^_, _<_}
 use mathlib.Core.Path.{_∙_}
 use native.Mathlib.Omega.{arith}

@@ -1,3 +1,4 @@
+-- `call::execute` meets its contract: each return cites the way through the definition that leads to it. Assumes nothing.
 use mathlib.Core.Path.{_≡_, sym, _∙_}
 use mathlib.Core.Bool.{true}
 use lib.ListN.{length as count}

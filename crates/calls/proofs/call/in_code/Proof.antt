@@ -1,3 +1,4 @@
+-- `in_code` meets its contract, by the mode. Assumes nothing.
 use mathlib.Core.Path.{sym, _∙_}
 use borrow.Author.Needs.{needs}
 use Rattle.calls.specs.Call.{inCode}

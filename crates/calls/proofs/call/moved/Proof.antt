@@ -1,3 +1,4 @@
+-- `moved` meets its contract, by the sign of the number. Assumes nothing.
 use native.Mathlib.Omega.{arith}
 use borrow.Author.Needs.{needs}
 use mir.Syntax.{w64}

@@ -1,3 +1,4 @@
+-- `pushed` meets its contract, by the mode. Assumes nothing.
 use mathlib.Core.Path.{sym, _∙_}
 use borrow.Author.Needs.{needs}
 use Rattle.calls.proofs.call.pushed.Statement.{statement}

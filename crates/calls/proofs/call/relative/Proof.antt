@@ -1,3 +1,4 @@
+-- `relative` meets its contract: Next, moved by the displacement. Assumes nothing.
 use borrow.Author.Needs.{needs}
 use mir.Syntax.{w64}
 use mir.ValLaws.{toZ-ofZ}

@@ -1,3 +1,4 @@
+-- `blame` meets its contract: each failure, and each kind of page, is one case of the definition. Assumes nothing.
 use borrow.Author.Needs.{needs}
 use Rattle.processor.proofs.outcome.blame.Statement.{statement}
 use Rattle.processor.proofs.outcome.blame.Tie as tie

@@ -1,3 +1,4 @@
+-- `store_both` meets its contract: what trying the two accesses finds decides, and both are stored once both are ready. Assumes nothing.
 use mathlib.Core.Path.{_≡_, sym, _∙_, ap}
 use lib.ListN.{length as count}
 use borrow.Author.Needs.{needs}

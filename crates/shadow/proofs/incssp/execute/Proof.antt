@@ -1,3 +1,4 @@
+-- `incssp::execute` meets its contract: each return cites the way through the definition that leads to it. Assumes nothing.
 use Prim.Native.Nat.{_-_, _*_, _%_}
 use mathlib.Core.Path.{_≡_, sym, _∙_}
 use mathlib.Core.Bool.{true, false}

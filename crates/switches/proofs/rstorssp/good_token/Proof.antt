@@ -1,3 +1,4 @@
+-- `good_token` meets its contract: the three conditions are those of the definition. Assumes nothing.
 use Prim.Native.Nat.{_%_}
 use mathlib.Core.Bool.{true}
 use mathlib.Core.Path.{_≡_, sym, _∙_}

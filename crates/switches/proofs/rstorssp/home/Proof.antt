@@ -1,3 +1,4 @@
+-- `home` meets its contract, by its definition. Assumes nothing.
 use borrow.Author.Needs.{needs}
 use Rattle.switches.specs.Rstorssp.{home}
 use Rattle.switches.proofs.rstorssp.home.Statement.{statement}

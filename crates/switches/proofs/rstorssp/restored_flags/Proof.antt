@@ -1,3 +1,4 @@
+-- `restored_flags` meets its contract: the same bits are cleared in the same order. Assumes nothing.
 use mathlib.Core.Path.{refl}
 use native.Mathlib.Omega.{arith}
 use borrow.Author.Needs.{needs}

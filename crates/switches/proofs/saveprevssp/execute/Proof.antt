@@ -1,3 +1,4 @@
+-- `saveprevssp::execute` meets its contract: each return cites the way through the definition that leads to it. Assumes nothing.
 use mathlib.Core.Path.{_≡_, sym, _∙_}
 use mathlib.Core.Bool.{true, false}
 use lib.ListN.{length as count}

@@ -1,3 +1,4 @@
+-- `leave_token` meets its contract: each return cites the way through the definition that leads to it. Assumes nothing.
 use Prim.Native.Nat.{ℕ, _+_}
 use mathlib.Core.Path.{_≡_, sym, _∙_, ap}
 use mathlib.Core.Bool.{true}

@@ -1,3 +1,4 @@
+-- `new_top` meets its contract, by CF and the mode. Assumes nothing.
 use mathlib.Core.Path.{sym, _∙_}
 use borrow.Author.Tests.{not-true, not-false}
 use borrow.Author.Needs.{needs}

@@ -1,3 +1,4 @@
+-- `pop_hole` meets its contract, by what the load gives. Assumes nothing.
 use mathlib.Core.Path.{_≡_, sym, _∙_}
 use mathlib.Core.Bool.{false}
 use lib.ListN.{length as count}

@@ -1,3 +1,4 @@
+-- `saved_token` meets its contract: the tests are those of the definition. Assumes nothing.
 use mathlib.Core.Path.{sym, _∙_}
 use borrow.Author.Tests.{eq-eqb, ne-eqb}
 use borrow.Author.Needs.{needs}

@@ -1,3 +1,4 @@
+-- `State::enabled` meets its contract: the two tests are those of the definition. Assumes nothing.
 use borrow.Author.Tests.{eq-eqb, ne-eqb}
 use borrow.Author.Needs.{needs}
 use Rattle.processor.specs.State.{enabled}

@@ -1,3 +1,4 @@
+-- `State::in_range` meets its contract: the tests are those of the definition, in its order. Assumes nothing.
 use borrow.Author.Tests.{eq-eqb, ne-eqb, lt-ltb, le-ltb, le-leb, lt-leb}
 use borrow.Author.Needs.{needs}
 use Rattle.processor.specs.State.{inRange}

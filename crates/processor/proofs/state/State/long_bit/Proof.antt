@@ -1,3 +1,4 @@
+-- `State::long_bit` meets its contract, by the mode. Assumes nothing.
 use mathlib.Core.Path.{sym, _∙_}
 use borrow.Author.Needs.{needs}
 use Rattle.processor.proofs.state.State.long_bit.Statement.{statement}

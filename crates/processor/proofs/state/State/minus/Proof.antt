@@ -1,3 +1,4 @@
+-- `State::minus` meets its contract: the difference at the width of the mode. Assumes nothing.
 use borrow.Author.Needs.{needs}
 use Rattle.processor.specs.State.{minus}
 use Rattle.processor.proofs.state.State.minus.Statement.{statement}

@@ -1,3 +1,4 @@
+-- `State::next` meets its contract, by its definition. Assumes nothing.
 use borrow.Author.Needs.{needs}
 use Rattle.processor.specs.State.{next}
 use Rattle.processor.proofs.state.State.next.Statement.{statement}

@@ -1,3 +1,4 @@
+-- `State::permitted` meets its contract, by its definition. Assumes nothing.
 use borrow.Author.Needs.{needs}
 use Rattle.processor.specs.State.{permitted}
 use Rattle.processor.proofs.state.State.permitted.Statement.{statement}

@@ -1,3 +1,4 @@
+-- `State::plus` meets its contract: the sum at the width of the mode. Assumes nothing.
 use borrow.Author.Needs.{needs}
 use Rattle.processor.specs.State.{plus}
 use Rattle.processor.proofs.state.State.plus.Statement.{statement}

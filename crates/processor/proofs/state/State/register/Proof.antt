@@ -1,3 +1,4 @@
+-- `State::register` meets its contract, by the CPL. Assumes nothing.
 use mathlib.Core.Path.{sym, _∙_}
 use borrow.Author.Needs.{needs}
 use Rattle.processor.proofs.state.State.register.Statement.{statement}

@@ -1,3 +1,4 @@
+-- `State::usable` meets its contract: the test is that of the definition. Assumes nothing.
 use borrow.Author.Tests.{eq-eqb, ne-eqb}
 use borrow.Author.Needs.{needs}
 use Rattle.processor.specs.State.{usable}
