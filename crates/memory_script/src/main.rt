@@ -1,4 +1,5 @@
-// Answers a memory script: page lists, finds, loads, stores and sums, a line for each, from standard input to standard output.
+// Answers a memory script, a line at a time, from standard input to standard output: page lists, finds, loads, stores and sums,
+// and single operations on a state and the lent bytes.
 //
 // A line is read whole before it is answered, so that a malformed one changes nothing. No contract can speak of what is
 // written: those here say how a line is read, what is lent, and that every place is within bounds.
@@ -20,12 +21,17 @@ use memory::Reach;
 use memory::Size;
 use memory::Spot;
 use memory::Width;
+use processor::Answer;
+use processor::Fault;
+use processor::Outcome;
+use processor::Refusal;
+use processor::State;
 
 // The longest input, in bytes.
 const INPUT_LIMIT: usize = 262144;
 
-// The most bytes and entries that a `pages` line lends. Both are past what a page list may have, so that a script can try
-// those refusals.
+// The most bytes and entries that a line lends. Both are past what a page list may have, so that a script can try those
+// refusals.
 const LENT_LIMIT: usize = 73728;
 
 const ENTRY_LIMIT: usize = 18;
@@ -33,12 +39,29 @@ const ENTRY_LIMIT: usize = 18;
 // The most numbers of a line: a length and the entries.
 const NUMBER_LIMIT: usize = ENTRY_LIMIT + 1;
 
-enum Command {
-    Pages,
+// Below these numbers are those of 32 bits.
+const WIDE_FROM: u64 = 0x1_0000_0000;
+
+// What bytes are lent as: each by its place, or all 0.
+enum Fill {
+    Placed,
+    Blank,
+}
+
+// What goes by the last page list: where that was refused, the refusal is the answer.
+enum Request {
     Find,
     Load,
     Store,
+    SetWord,
+    Operate,
+}
+
+enum Command {
+    Pages(Fill),
+    SetState,
     Sum,
+    OnPages(Request),
 }
 
 // What the first field of a line is.
@@ -59,11 +82,26 @@ enum Reading {
     Wrong(usize),
 }
 
-// The last page list: how many entries it has, how many bytes were lent for it, and the number of its refusal or 0.
+// The last page list: how many entries it has, how many bytes were lent for it and as what, and the number of its refusal or 0.
 struct PageList {
     entries: usize,
     lent: usize,
+    fill: Fill,
     refusal: u64,
+}
+
+// What a line leaves to the next, beside the entries and the bytes.
+struct Session {
+    list: PageList,
+    state: State,
+}
+
+// One operation: its code, its length in bytes and its two words.
+struct Instruction {
+    code: u64,
+    length: u64,
+    a: u64,
+    b: u64,
 }
 
 // ---- reading a line
@@ -87,19 +125,31 @@ fn read_word(text: &[u8]) -> Word
     ensures { λ r. ⌜ Spelt (now (text .entry)) r ⌝ }
 {
     if check::same(text, b"pages") {
-        return Word::Known(Command::Pages);
+        return Word::Known(Command::Pages(Fill::Placed));
     }
-    if check::same(text, b"find") {
-        return Word::Known(Command::Find);
+    if check::same(text, b"blank") {
+        return Word::Known(Command::Pages(Fill::Blank));
     }
-    if check::same(text, b"load") {
-        return Word::Known(Command::Load);
-    }
-    if check::same(text, b"store") {
-        return Word::Known(Command::Store);
+    if check::same(text, b"state") {
+        return Word::Known(Command::SetState);
     }
     if check::same(text, b"sum") {
         return Word::Known(Command::Sum);
+    }
+    if check::same(text, b"find") {
+        return Word::Known(Command::OnPages(Request::Find));
+    }
+    if check::same(text, b"load") {
+        return Word::Known(Command::OnPages(Request::Load));
+    }
+    if check::same(text, b"store") {
+        return Word::Known(Command::OnPages(Request::Store));
+    }
+    if check::same(text, b"word") {
+        return Word::Known(Command::OnPages(Request::SetWord));
+    }
+    if check::same(text, b"do") {
+        return Word::Known(Command::OnPages(Request::Operate));
     }
     Word::Unknown
 }
@@ -159,43 +209,67 @@ fn access_allows(place: usize, n: u64) -> bool {
     }
 }
 
-// A field too many is wrong like one out of its range, so one test serves for both: whether n can be a command's number at a
-// place, counted from 0.
-fn allows(command: Command, place: usize, n: u64) -> bool
-    ensures { λ r. ⌜ (r ≡ true → Allowed command place n) ⌝ }
+// Whether n can be the number at a place of an operation: code, length, words A and B.
+fn operation_allows(place: usize, n: u64) -> bool {
+    match place {
+        0 => 1 <= n && n <= 8,
+        1 => 1 <= n && n <= 15,
+        _ => true,
+    }
+}
+
+// Whether n is in the range of a command's number at a place, counted from 0.
+fn in_range(command: Command, place: usize, n: u64) -> bool
+    ensures { λ r. ⌜ (r ≡ true → place ≡ 0 → FirstFits command n) ⌝ }
 {
     match command {
-        Command::Pages => {
-            if place == 0 {
-                n <= (LENT_LIMIT as u64)
-            } else {
-                place <= ENTRY_LIMIT
-            }
-        }
-        Command::Find => place == 0,
-        Command::Load => place < 5 && access_allows(place, n),
-        Command::Store => place < 6 && access_allows(place, n),
-        Command::Sum => {
-            if place == 0 {
-                one_of(n, 4, 8)
-            } else {
-                place < 3
-            }
-        }
+        Command::Pages(_) => 0 < place || n <= (LENT_LIMIT as u64),
+        Command::SetState => true,
+        Command::Sum => 0 < place || one_of(n, 4, 8),
+        Command::OnPages(request) => match request {
+            Request::Find => true,
+            Request::Load => access_allows(place, n),
+            Request::Store => access_allows(place, n),
+            Request::SetWord => true,
+            Request::Operate => operation_allows(place, n),
+        },
     }
 }
 
 // The fewest numbers that a command has.
 fn fewest(command: Command) -> usize
-    ensures { λ r. ⌜ 0 < r ⌝ }
+    ensures { λ r. ⌜ (0 < r) × (r ≤ 19) ⌝ }
 {
     match command {
-        Command::Pages => 1,
-        Command::Find => 1,
-        Command::Load => 5,
-        Command::Store => 6,
+        Command::Pages(_) => 1,
+        Command::SetState => 10,
         Command::Sum => 3,
+        Command::OnPages(request) => match request {
+            Request::Find => 1,
+            Request::Load => 5,
+            Request::Store => 6,
+            Request::SetWord => 2,
+            Request::Operate => 4,
+        },
     }
+}
+
+// The most numbers that a command has: only a page list can have more than the fewest.
+fn most(command: Command) -> usize
+    ensures { λ r. ⌜ r ≤ 19 ⌝ }
+{
+    match command {
+        Command::Pages(_) => NUMBER_LIMIT,
+        _ => fewest(command),
+    }
+}
+
+// A field too many is wrong like one out of its range, so one test serves for both: whether n can be a command's number at a
+// place.
+fn allows(command: Command, place: usize, n: u64) -> bool
+    ensures { λ r. ⌜ (r ≡ true → Allowed command place n) ⌝ }
+{
+    place < most(command) && in_range(command, place, n)
 }
 
 // Reads the fields after a line's word, each with the space before it. The word is field 1, so the number at a place is field
@@ -254,21 +328,44 @@ fn print_failure(failure: Failure) {
     }
 }
 
+fn print_fault(fault: Fault) {
+    let vector = fault.vector;
+    print_with(b"fault ", vector.number());
+    print_with(b" ", fault.code);
+    print_with(b" ", fault.address);
+}
+
+fn print_state(state: State) {
+    print_with(b" state ", state.mode);
+    print_with(b" ", state.cpl);
+    print_with(b" ", state.cet);
+    print_with(b" ", state.ucet);
+    print_with(b" ", state.scet);
+    print_with(b" ", state.ip);
+    print_with(b" ", state.sp);
+    print_with(b" ", state.ssp);
+    print_with(b" ", state.flags);
+    print_with(b" ", state.limit);
+}
+
 // ---- what is lent
 
 // The byte that is lent at a place. It is made from remainders, which no place makes too large.
-fn lent_byte(place: usize) -> u8
-    ensures { λ r. ⌜ r ≡ lentByte place ⌝ }
+fn lent_byte(fill: Fill, place: usize) -> u8
+    ensures { λ r. ⌜ r ≡ lentByte fill place ⌝ }
 {
-    ((13 * (place % 256) + place / 256 % 256 + 7) % 256) as u8
+    match fill {
+        Fill::Placed => ((13 * (place % 256) + place / 256 % 256 + 7) % 256) as u8,
+        Fill::Blank => 0,
+    }
 }
 
-fn lend_bytes(bytes: &mut [u8])
-    ensures { λ _. ⌜ Fresh (now (bytes .exit)) ⌝ }
+fn lend_bytes(fill: Fill, bytes: &mut [u8])
+    ensures { λ _. ⌜ Fresh fill (now (bytes .exit)) ⌝ }
 {
     let mut place = 0;
     while place < bytes.len() {
-        bytes[place] = lent_byte(place);
+        bytes[place] = lent_byte(fill, place);
         place += 1;
     }
 }
@@ -286,11 +383,11 @@ fn copy_entries(numbers: &[u64; NUMBER_LIMIT], entries: usize, pages: &mut [u64]
 }
 
 // Writes each byte that is not as it was lent, with its place.
-fn print_changes(bytes: &[u8]) {
+fn print_changes(fill: Fill, bytes: &[u8]) {
     let mut place = 0;
     while place < bytes.len() {
         let byte = bytes[place];
-        if byte != lent_byte(place) {
+        if byte != lent_byte(fill, place) {
             print_with(b" ", place as u64);
             print_with(b"=", wide(byte));
         }
@@ -298,7 +395,7 @@ fn print_changes(bytes: &[u8]) {
     }
 }
 
-// ---- answering a line
+// ---- answering a line about memory
 
 fn kind(n: u64) -> Kind
     ensures { λ r. ⌜ IsKind n r ⌝ }
@@ -348,23 +445,25 @@ fn access(numbers: &[u64; NUMBER_LIMIT], store: bool) -> Access
 
 // Lends fresh bytes with a new page list, and hands that back with its refusal.
 fn answer_pages(
+    fill: Fill,
     numbers: &[u64; NUMBER_LIMIT],
     count: usize,
     pages: &mut [u64],
     bytes: &mut [u8],
 ) -> PageList
-    requires { ⌜ Numbers Command.Pages (now numbers) count × Room (now pages) (now bytes) ⌝ }
-    ensures { λ r. ⌜ Lends (now (numbers .entry)) count r (now (pages .exit)) (now (bytes .exit)) ⌝ }
+    requires { ⌜ Numbers (Command.Pages fill) (now numbers) count × Room (now pages) (now bytes) ⌝ }
+    ensures { λ r. ⌜ Lends fill (now (numbers .entry)) count r (now (pages .exit)) (now (bytes .exit)) ⌝ }
 {
     let entries = count - 1;
     let lent = numbers[0] as usize;
     copy_entries(numbers, entries, pages);
-    lend_bytes(&mut bytes[..lent]);
+    lend_bytes(fill, &mut bytes[..lent]);
     let refusal = Listing::of(&pages[..entries], lent).number();
     print_with(b"refusal ", refusal);
     PageList {
         entries,
         lent,
+        fill,
         refusal,
     }
 }
@@ -386,12 +485,12 @@ fn answer_load(access: Access, pages: &[u64], bytes: &[u8]) {
     }
 }
 
-fn answer_store(access: Access, value: u64, pages: &[u64], bytes: &mut [u8]) {
+fn answer_store(access: Access, value: u64, fill: Fill, pages: &[u64], bytes: &mut [u8]) {
     match access.store(pages, bytes, value) {
         Reach::Ready => print(b"stored"),
         Reach::Blocked(failure) => print_failure(failure),
     }
-    print_changes(bytes);
+    print_changes(fill, bytes);
 }
 
 fn answer_sum(width: Width, a: u64, b: u64) {
@@ -399,48 +498,240 @@ fn answer_sum(width: Width, a: u64, b: u64) {
     print_with(b" minus ", width.minus(a, b));
 }
 
-// Whether a command goes by the last page list: where that was refused, the refusal is its answer.
-fn asks_pages(command: Command) -> bool {
-    match command {
-        Command::Pages => false,
-        Command::Find => true,
-        Command::Load => true,
-        Command::Store => true,
-        Command::Sum => false,
+// Whether all eight bytes of a word are on listed pages, of whatever kinds.
+fn probe_word(address: u64, pages: &[u64], lent: usize) -> Reach {
+    let width = Width::Bits64;
+    let mut at = address;
+    let mut left: usize = 8;
+    while 0 < left {
+        match memory::find(pages, lent, at) {
+            Spot::Unlisted => return Reach::Blocked(Failure::NotListed(at)),
+            Spot::At(_, _) => {}
+        }
+        at = width.plus(at, 1);
+        left -= 1;
+    }
+    Reach::Ready
+}
+
+// Sets the byte that an address leads to, if it leads to one.
+fn set_byte(address: u64, byte: u8, pages: &[u64], bytes: &mut [u8])
+    ensures { λ _. ⌜ now (bytes .exit) ≡ putByte (spot (now (pages .entry)) (length (now (bytes .entry))) address) byte (now (bytes .entry)) ⌝ }
+{
+    match memory::find(pages, bytes.len(), address) {
+        Spot::Unlisted => {}
+        Spot::At(_, place) => {
+            if place < bytes.len() {
+                bytes[place] = byte;
+            }
+        }
     }
 }
 
-// Answers a well-formed line, and hands back the page list that the next line goes by.
+// Sets the eight bytes of a word, low byte first.
+fn set_word(address: u64, value: u64, pages: &[u64], bytes: &mut [u8]) {
+    let width = Width::Bits64;
+    let mut at = address;
+    let mut rest = value;
+    let mut left: usize = 8;
+    while 0 < left {
+        set_byte(at, (rest % 256) as u8, pages, bytes);
+        at = width.plus(at, 1);
+        rest = rest / 256;
+        left -= 1;
+    }
+}
+
+fn answer_word(address: u64, value: u64, pages: &[u64], bytes: &mut [u8]) {
+    match probe_word(address, pages, bytes.len()) {
+        Reach::Blocked(failure) => print_failure(failure),
+        Reach::Ready => {
+            set_word(address, value, pages, bytes);
+            print(b"set");
+        }
+    }
+}
+
+// ---- answering a line about an operation
+
+// The state whose fields are a line's numbers.
+fn state_of(numbers: &[u64; NUMBER_LIMIT]) -> State
+    ensures { λ r. ⌜ r ≡ stateOf (now (numbers .entry)) ⌝ }
+{
+    State {
+        mode: numbers[0],
+        cpl: numbers[1],
+        cet: numbers[2],
+        ucet: numbers[3],
+        scet: numbers[4],
+        ip: numbers[5],
+        sp: numbers[6],
+        ssp: numbers[7],
+        flags: numbers[8],
+        limit: numbers[9],
+    }
+}
+
+fn answer_state(state: State) {
+    if state.in_range() {
+        print_with(b"refusal ", 0);
+    } else {
+        print_with(b"refusal ", Refusal::State.number());
+    }
+}
+
+fn instruction(numbers: &[u64; NUMBER_LIMIT]) -> Instruction
+    ensures { λ r. ⌜ r ≡ instructionOf (now (numbers .entry)) ⌝ }
+{
+    Instruction {
+        code: numbers[0],
+        length: numbers[1],
+        a: numbers[2],
+        b: numbers[3],
+    }
+}
+
+// Whether the words that an operation does not use are 0, and a displacement has 32 bits.
+fn words_fit(step: Instruction) -> bool {
+    match step.code {
+        1 | 2 => step.a == 0,
+        4 => step.a == 0 && step.b == 0,
+        5 | 6 => true,
+        7 => step.a < WIDE_FROM && step.b == 0,
+        _ => step.b == 0,
+    }
+}
+
+// Whether an operation has its form in a mode.
+fn mode_fits(step: Instruction, mode: u64) -> bool {
+    match mode {
+        0 => step.code < 7,
+        1 => !one_of(step.code, 2, 6) && step.a < WIDE_FROM && step.b < WIDE_FROM,
+        _ => true,
+    }
+}
+
+fn execute(step: Instruction, state: State, pages: &[u64], bytes: &mut [u8]) -> Outcome {
+    let length = step.length;
+    let a = step.a;
+    let b = step.b;
+    let permitted = state.permitted();
+    match step.code {
+        1 => shadow::incssp::execute(state, pages, bytes, Size::Four, b, length),
+        2 => shadow::incssp::execute(state, pages, bytes, Size::Eight, b, length),
+        3 => switches::rstorssp::execute(state, pages, bytes, a, length),
+        4 => switches::saveprevssp::execute(state, pages, bytes, length),
+        5 => shadow::wrss::execute(state, permitted, pages, bytes, Size::Four, a, b, length),
+        6 => shadow::wrss::execute(state, permitted, pages, bytes, Size::Eight, a, b, length),
+        7 => {
+            let target = calls::call::relative(state, a, length);
+            calls::call::execute(state, pages, bytes, target, length)
+        }
+        _ => calls::call::execute(state, pages, bytes, a, length),
+    }
+}
+
+// Runs an operation, or refuses it: a state out of range comes before a wrong form.
+fn operate(step: Instruction, state: State, pages: &[u64], bytes: &mut [u8]) -> Outcome {
+    if !state.in_range() {
+        return Outcome {
+            answer: Answer::Refused(Refusal::State),
+            state,
+        };
+    }
+    if words_fit(step) && mode_fits(step, state.mode) {
+        return execute(step, state, pages, bytes);
+    }
+    Outcome {
+        answer: Answer::Refused(Refusal::Instruction),
+        state,
+    }
+}
+
+// Runs an operation, and hands back the state after it. A refusal is the whole answer: it changes nothing.
+fn answer_operation(
+    step: Instruction,
+    state: State,
+    fill: Fill,
+    pages: &[u64],
+    bytes: &mut [u8],
+) -> State {
+    let outcome = operate(step, state, pages, bytes);
+    let answer = outcome.answer;
+    let after = outcome.state;
+    match answer {
+        Answer::Completed => print(b"completed"),
+        Answer::Faulted(fault) => print_fault(fault),
+        Answer::Refused(refusal) => {
+            print_with(b"refusal ", refusal.number());
+            return after;
+        }
+    }
+    print_state(after);
+    print_changes(fill, bytes);
+    after
+}
+
+// ---- answering a line
+
+// Answers a line that goes by the last page list, with that list's entries and bytes, and hands back the state after it.
+fn answer_request(
+    session: Session,
+    request: Request,
+    numbers: &[u64; NUMBER_LIMIT],
+    pages: &[u64],
+    bytes: &mut [u8],
+) -> State {
+    let list = session.list;
+    let state = session.state;
+    let fill = list.fill;
+    if list.refusal != 0 {
+        print_with(b"refusal ", list.refusal);
+        return state;
+    }
+    match request {
+        Request::Find => answer_find(numbers[0], pages, bytes.len()),
+        Request::Load => answer_load(access(numbers, false), pages, bytes),
+        Request::Store => answer_store(access(numbers, true), numbers[5], fill, pages, bytes),
+        Request::SetWord => answer_word(numbers[0], numbers[1], pages, bytes),
+        Request::Operate => {
+            return answer_operation(instruction(numbers), state, fill, pages, bytes);
+        }
+    }
+    state
+}
+
+// Answers a well-formed line, and hands back what the next line goes by.
 fn answer(
-    list: PageList,
+    session: Session,
     command: Command,
     numbers: &[u64; NUMBER_LIMIT],
     count: usize,
     pages: &mut [u64],
     bytes: &mut [u8],
-) -> PageList
-    requires { ⌜ Bounded list × Numbers command (now numbers) count × Room (now pages) (now bytes) ⌝ }
-    ensures { λ r. ⌜ Bounded r ⌝ }
+) -> Session
+    requires { ⌜ Bounded (session .list) × Numbers command (now numbers) count × Room (now pages) (now bytes) ⌝ }
+    ensures { λ r. ⌜ Bounded (r .list) ⌝ }
 {
-    let entries = list.entries;
-    let lent = list.lent;
-    if asks_pages(command) && list.refusal != 0 {
-        print_with(b"refusal ", list.refusal);
-        return list;
-    }
+    let mut list = session.list;
+    let mut state = session.state;
     match command {
-        Command::Pages => return answer_pages(numbers, count, pages, bytes),
-        Command::Find => answer_find(numbers[0], &pages[..entries], lent),
-        Command::Load => answer_load(access(numbers, false), &pages[..entries], &bytes[..lent]),
-        Command::Store => answer_store(
-            access(numbers, true),
-            numbers[5],
-            &pages[..entries],
-            &mut bytes[..lent],
-        ),
+        Command::Pages(fill) => {
+            list = answer_pages(fill, numbers, count, pages, bytes);
+        }
+        Command::SetState => {
+            state = state_of(numbers);
+            answer_state(state);
+        }
         Command::Sum => answer_sum(width(numbers[0]), numbers[1], numbers[2]),
+        Command::OnPages(request) => {
+            let entries = list.entries;
+            let lent = list.lent;
+            let lent_pages = &pages[..entries];
+            state = answer_request(session, request, numbers, lent_pages, &mut bytes[..lent]);
+        }
     }
-    list
+    Session { list, state }
 }
 
 // ---- the script
@@ -449,54 +740,64 @@ fn is_skipped(line: &[u8]) -> bool {
     line.len() == 0 || line[0] == b'#'
 }
 
-// Answers a line, or names its first wrong field, and hands back the page list that the next line goes by.
+// Answers a line, or names its first wrong field, and hands back what the next line goes by.
 fn answer_line(
-    list: PageList,
+    session: Session,
     line: &[u8],
     line_number: u64,
     pages: &mut [u64],
     bytes: &mut [u8],
-) -> PageList
-    requires { ⌜ Bounded list × Room (now pages) (now bytes) ⌝ }
-    ensures { λ r. ⌜ Bounded r ⌝ }
+) -> Session
+    requires { ⌜ Bounded (session .list) × Room (now pages) (now bytes) ⌝ }
+    ensures { λ r. ⌜ Bounded (r .list) ⌝ }
 {
     if is_skipped(line) {
-        return list;
+        return session;
     }
     let end = find_byte(line, 0, b' ');
     let Word::Known(command) = read_word(&line[..end]) else {
         print_malformed(line_number, 1);
-        return list;
+        return session;
     };
     let mut numbers = [0; NUMBER_LIMIT];
     match read_numbers(command, &line[end..], &mut numbers) {
         Reading::Wrong(field) => {
             print_malformed(line_number, field);
-            list
+            session
         }
         Reading::Whole(count) => {
             print(line);
             print(b" -> ");
-            let next = answer(list, command, &numbers, count, pages, bytes);
+            let next = answer(session, command, &numbers, count, pages, bytes);
             print(b"\n");
             next
         }
     }
 }
 
+// Before the first line: a valid list of no pages, and a state of zeros.
+fn first_session() -> Session
+    ensures { λ r. ⌜ Bounded (r .list) ⌝ }
+{
+    let list = PageList {
+        entries: 0,
+        lent: 0,
+        fill: Fill::Placed,
+        refusal: 0,
+    };
+    let state = state_of(&[0; NUMBER_LIMIT]);
+    Session { list, state }
+}
+
 fn run(input: &[u8], pages: &mut [u64], bytes: &mut [u8])
     requires { ⌜ (length (now input) ≤ 262144) × Room (now pages) (now bytes) ⌝ }
 {
-    let mut list = PageList {
-        entries: 0,
-        lent: 0,
-        refusal: 0,
-    };
+    let mut session = first_session();
     let mut line_number: u64 = 1;
     let mut start = 0;
     while start < input.len() {
         let end = find_byte(input, start, b'\n');
-        list = answer_line(list, &input[start..end], line_number, pages, bytes);
+        session = answer_line(session, &input[start..end], line_number, pages, bytes);
         line_number += 1;
         start = end + 1;
     }

@@ -22,9 +22,13 @@ refusalNumber State = 5
 refusalNumber Instruction = 6
 refusalNumber Words = 7
 
+-- a fault: vector, error code, address
+abbrev pub faultOf : Vector → ℕ → ℕ → Fault
+faultOf vector code address = record { vector = vector; code = code; address = address }
+
 -- error code 0, no address
 abbrev pub plainFault : Vector → Fault
-plainFault vector = record { vector = vector; code = 0; address = 0 }
+plainFault vector = faultOf vector 0 0
 
 -- #UD, #SS(0), #GP(0)
 abbrev pub ud : Fault
@@ -38,11 +42,11 @@ gp = plainFault Protection
 
 -- #PF, which names a byte
 abbrev pub pageFault : ℕ → Fault
-pageFault address = record { vector = Page; code = 0; address = address }
+pageFault address = faultOf Page 0 address
 
 -- #CP, whose error code says which operation found what
 abbrev pub controlFault : ℕ → Fault
-controlFault code = record { vector = Control; code = code; address = 0 }
+controlFault code = faultOf Control code 0
 
 -- #CP(RSTORSSP)
 abbrev pub cpRstorssp : Fault

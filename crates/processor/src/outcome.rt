@@ -1,6 +1,6 @@
 // What an operation hands back: its answer and the whole state.
 ghost use mathlib.Core.Path.{_≡_};
-ghost use Rattle.processor.specs.Answer.{plainFault, controlFault, pageFault};
+ghost use Rattle.processor.specs.Answer.{faultOf, plainFault, controlFault, pageFault};
 ghost use Rattle.processor.specs.Accesses.{blame as blameOf};
 ghost use Rattle.processor.specs.Outcomes.{completed, faulted as faultedWith};
 use crate::answer::Answer;
@@ -16,36 +16,34 @@ pub struct Outcome {
     pub state: State,
 }
 
+fn raised(vector: Vector, code: u64, address: u64) -> Fault
+    ensures { λ r. ⌜ r ≡ faultOf vector code address ⌝ }
+{
+    Fault {
+        vector,
+        code,
+        address,
+    }
+}
+
 // A fault with error code 0 and no address.
 pub fn fault(vector: Vector) -> Fault
     ensures { λ r. ⌜ r ≡ plainFault vector ⌝ }
 {
-    Fault {
-        vector,
-        code: 0,
-        address: 0,
-    }
+    raised(vector, 0, 0)
 }
 
 // A control protection fault with its error code.
 pub fn control_fault(code: u64) -> Fault
     ensures { λ r. ⌜ r ≡ controlFault code ⌝ }
 {
-    Fault {
-        vector: Vector::Control,
-        code,
-        address: 0,
-    }
+    raised(Vector::Control, code, 0)
 }
 
 fn page_fault(address: u64) -> Fault
     ensures { λ r. ⌜ r ≡ pageFault address ⌝ }
 {
-    Fault {
-        vector: Vector::Page,
-        code: 0,
-        address,
-    }
+    raised(Vector::Page, 0, address)
 }
 
 // The fault of an access that cannot be done.

@@ -8,6 +8,7 @@
 //!   neither the state nor a byte changes;
 //! * `[refusal N]`: just this;
 //! * `[no page ADDRESS]`: just this, and nothing is set;
+//! * `[field N]`: the line is malformed from its N-th field on, in decimal;
 //! * `[done CHANGES]`: it completes. A change is `FIELD=VALUE` for a field of
 //!   the state, or `ADDRESS:SIZE=VALUE` for bytes, parted by blanks. IP grows
 //!   by the length unless it is named. All else stays.
@@ -72,7 +73,7 @@ impl Ledger {
         let start = match words.next().unwrap() {
             "refusal" => return expected.to_string(),
             "done" => {
-                self.state[5] += length;
+                self.state[5] = self.state[5].wrapping_add(length);
                 words.for_each(|change| self.change(change));
                 "completed".to_string()
             }
@@ -83,7 +84,11 @@ impl Ledger {
             "#CP" => "fault 15 4 0".to_string(),
             _ => panic!("{expected}"),
         };
-        let state: String = self.state.iter().map(|field| format!(" {field:x}")).collect();
+        let state: String = self
+            .state
+            .iter()
+            .map(|field| format!(" {field:x}"))
+            .collect();
         start + " state" + &state + &self.changes()
     }
 
@@ -146,9 +151,12 @@ fn the_hand_made_cases_get_what_they_expect() {
             expected = bracket(line);
             continue;
         }
-        let answer = answers.next().unwrap();
-        let wanted = format!("{line} -> {}", ledger.answer(line, expected.take()));
-        assert_eq!(answer, wanted, "line {number}");
+        let expected = expected.take();
+        let wanted = match expected.and_then(|words| words.strip_prefix("field ")) {
+            Some(field) => format!("line {number}, field {field}: refused"),
+            None => format!("{line} -> {}", ledger.answer(line, expected)),
+        };
+        assert_eq!(answers.next(), Some(&wanted[..]), "line {number}");
     }
     assert_eq!(answers.next(), None);
 }
