@@ -1,18 +1,25 @@
 -- Laws of digits, numbers, words and lent bytes, in the terms of the code. Assumes nothing.
-use Prim.Native.Nat.{ℕ, zero, suc, _+_, _*_, _/_, _%_, _^_, _≤_, _<_}
+use Prim.Native.Nat.{ℕ, zero, suc, _+_, _-_, _*_, _/_, _%_, _^_, _≤_, _<_}
 use mathlib.Core.Path.{_≡_, refl, sym, _∙_, ap}
 use mathlib.Core.Bool.{Bool, true, false, cond}
 use mathlib.Core.List.{List, _++_}
 use native.Mathlib.Nat.{pow-suc, pow-le-pow-right, add-mul-mod-self-left}
-use native.Mathlib.Numerals.{add-one}
+use native.Mathlib.Numerals.{add-one, unary-clauses}
 use native.Mathlib.Omega.{arith}
 use lib.ListN.{length, getD, take, drop, set, length-drop, drop-of-length-le}
 use lib.Seq.{drop-cons, take-at, length-take-le, take-suc, take-suc-set, getD-drop, getD-set-same, getD-set-other}
 use lib.Dec.{leb, lit<}
+use Rattle.memory.specs.Address.{plus}
+use Rattle.memory.specs.Pages.{Lookup}
+use Rattle.memory.specs.Access.{putByte, write}
+use Rattle.memory.specs.declared.address.Width.the-variants.{Bits64}
 use Rattle.memory_script.specs.Line.{spelling, digitOf, valueFrom, FirstFits, Numbers}
 use Rattle.memory_script.specs.Lent.{lentByte, Fresh, entriesOf, pageListOf, Bounded}
 use Rattle.memory_script.specs.declared.Command.{Command}
-use Rattle.memory_script.specs.declared.Command.the-variants.{Pages, Find, Load, Store, Sum}
+use Rattle.memory_script.specs.declared.Command.the-variants.{Pages, SetState, Sum, OnPages}
+use Rattle.memory_script.specs.declared.Fill.{Fill}
+use Rattle.memory_script.specs.declared.Fill.the-variants.{Placed, Blank}
+use Rattle.memory_script.specs.declared.Request.the-variants.{Find, Load, Store, SetWord, Operate}
 use Rattle.memory_script.specs.declared.Number.the-variants.{Value, Malformed}
 
 -- ---- numbers
@@ -45,30 +52,51 @@ not-both b f t =
     omega arith
 
 pub no-word : (text : List ℕ)
-    → (text ≡ spelling Pages → ⊥)
-    → (text ≡ spelling Find → ⊥)
-    → (text ≡ spelling Load → ⊥)
-    → (text ≡ spelling Store → ⊥)
+    → (text ≡ spelling (Pages Placed) → ⊥)
+    → (text ≡ spelling (Pages Blank) → ⊥)
+    → (text ≡ spelling SetState → ⊥)
     → (text ≡ spelling Sum → ⊥)
+    → (text ≡ spelling (OnPages Find) → ⊥)
+    → (text ≡ spelling (OnPages Load) → ⊥)
+    → (text ≡ spelling (OnPages Store) → ⊥)
+    → (text ≡ spelling (OnPages SetWord) → ⊥)
+    → (text ≡ spelling (OnPages Operate) → ⊥)
     → (command : Command)
     → text ≡ spelling command
     → ⊥
-no-word text pages find load store sum Pages = pages
-no-word text pages find load store sum Find = find
-no-word text pages find load store sum Load = load
-no-word text pages find load store sum Store = store
-no-word text pages find load store sum Sum = sum
+no-word text pages blank state sum find load store word operate (Pages Placed) = pages
+no-word text pages blank state sum find load store word operate (Pages Blank) = blank
+no-word text pages blank state sum find load store word operate SetState = state
+no-word text pages blank state sum find load store word operate Sum = sum
+no-word text pages blank state sum find load store word operate (OnPages Find) = find
+no-word text pages blank state sum find load store word operate (OnPages Load) = load
+no-word text pages blank state sum find load store word operate (OnPages Store) = store
+no-word text pages blank state sum find load store word operate (OnPages SetWord) = word
+no-word text pages blank state sum find load store word operate (OnPages Operate) = operate
 
 -- ---- lent bytes
 
-pub lent-rest : (place : ℕ) → (13 * (place % 256) + place / 256 % 256 + 7) % 256 ≡ lentByte place
+pub lent-rest : (place : ℕ) → (13 * (place % 256) + place / 256 % 256 + 7) % 256 ≡ lentByte Placed place
 lent-rest place =
     let whole : 13 * place + place / 256 + 7 ≡ 13 * (place % 256) + place / 256 % 256 + 7 + 256 * (13 * (place / 256) + place / 256 / 256) = omega arith in
     sym (ap (λ (n : ℕ). n % 256) whole ∙ add-mul-mod-self-left _ 256 _)
 
 -- a part at the start of the bytes that was lent and is back
-pub front-fresh : (n : ℕ) (bytes front rest : List ℕ) → n ≤ length bytes → length front ≡ length (take n bytes) → Fresh front → Fresh (take n (front ++ rest))
-front-fresh n bytes front rest room back fresh = rw (take-at front rest n (back ∙ length-take-le n bytes room)) fresh
+pub front-fresh : (fill : Fill) (n : ℕ) (bytes front rest : List ℕ) → n ≤ length bytes → length front ≡ length (take n bytes) → Fresh fill front → Fresh fill (take n (front ++ rest))
+front-fresh fill n bytes front rest room back fresh = rw (take-at front rest n (back ∙ length-take-le n bytes room)) fresh
+
+-- ---- words of eight bytes
+
+module _ (look : Lookup) (at rest : ℕ) (bytes : List ℕ) where
+  pub write-turn : (left : ℕ) → 0 < left → write look Bits64 at left rest bytes ≡ write look Bits64 (plus Bits64 at 1) (left - 1) (rest / 256) (putByte (look at) (rest % 256) bytes)
+  unfolding write
+  write-turn zero more = absurd (omega arith)
+  write-turn (suc n) more = simp unary-clauses
+
+  pub write-end : (left : ℕ) → left ≤ 0 → write look Bits64 at left rest bytes ≡ bytes
+  unfolding write
+  write-end zero none = refl
+  write-end (suc n) none = absurd (omega arith)
 
 -- ---- entries
 
@@ -89,5 +117,5 @@ pub first-kept : (command : Command) (numbers : List ℕ) (count n : ℕ)
 first-kept command numbers zero n some before now = rw (getD-set-same numbers 0 n 0 some) (now refl)
 first-kept command numbers (suc k) n some before now = rw (getD-set-other numbers (suc k) 0 n 0 (λ e. omega arith)) (before (omega arith))
 
-pub list-bounded : (numbers : List ℕ) (count : ℕ) → Numbers Pages numbers count → Bounded (pageListOf numbers count)
-list-bounded numbers count read = record { entries-few = omega arith; lent-few = read .first-fits }
+pub list-bounded : (fill : Fill) (numbers : List ℕ) (count : ℕ) → Numbers (Pages fill) numbers count → Bounded (pageListOf fill numbers count)
+list-bounded fill numbers count read = record { entries-few = omega arith; lent-few = read .first-fits }

@@ -2,3 +2,4 @@
 pub mod Line
 pub mod Access
 pub mod Lent
+pub mod Operation

@@ -6,7 +6,9 @@ use mathlib.Core.List.{List, [], _∷_}
 use lib.ListN.{length, getD}
 use lib.Dec.{eqb, leb, ltb}
 use Rattle.memory_script.specs.declared.Command.{Command}
-use Rattle.memory_script.specs.declared.Command.the-variants.{Pages, Find, Load, Store, Sum}
+use Rattle.memory_script.specs.declared.Command.the-variants.{Pages, SetState, Sum, OnPages}
+use Rattle.memory_script.specs.declared.Fill.the-variants.{Placed, Blank}
+use Rattle.memory_script.specs.declared.Request.the-variants.{Find, Load, Store, SetWord, Operate}
 use Rattle.memory_script.specs.declared.Word.{Word}
 use Rattle.memory_script.specs.declared.Word.the-variants.{Known, Unknown}
 use Rattle.memory_script.specs.declared.Number.{Number}
@@ -26,11 +28,15 @@ pub record FirstFrom (text : List ℕ) (from stop r : ℕ) : Type 0 where
 -- ---- words, in ASCII
 
 abbrev pub spelling : Command → List ℕ
-spelling Pages = 112 ∷ 97 ∷ 103 ∷ 101 ∷ 115 ∷ []
-spelling Find = 102 ∷ 105 ∷ 110 ∷ 100 ∷ []
-spelling Load = 108 ∷ 111 ∷ 97 ∷ 100 ∷ []
-spelling Store = 115 ∷ 116 ∷ 111 ∷ 114 ∷ 101 ∷ []
+spelling (Pages Placed) = 112 ∷ 97 ∷ 103 ∷ 101 ∷ 115 ∷ []
+spelling (Pages Blank) = 98 ∷ 108 ∷ 97 ∷ 110 ∷ 107 ∷ []
+spelling SetState = 115 ∷ 116 ∷ 97 ∷ 116 ∷ 101 ∷ []
 spelling Sum = 115 ∷ 117 ∷ 109 ∷ []
+spelling (OnPages Find) = 102 ∷ 105 ∷ 110 ∷ 100 ∷ []
+spelling (OnPages Load) = 108 ∷ 111 ∷ 97 ∷ 100 ∷ []
+spelling (OnPages Store) = 115 ∷ 116 ∷ 111 ∷ 114 ∷ 101 ∷ []
+spelling (OnPages SetWord) = 119 ∷ 111 ∷ 114 ∷ 100 ∷ []
+spelling (OnPages Operate) = 100 ∷ 111 ∷ []
 
 abbrev pub Spelt : List ℕ → Word → Type 0
 Spelt text (Known command) = text ≡ spelling command
@@ -52,13 +58,12 @@ numberOf field = cond (eqb (length field) 0 || ltb 16 (length field)) Malformed 
 
 -- ---- the numbers of a line
 
--- the first number of a `pages` line is a length that can be lent
+-- the first number of a page list is a length that can be lent
 abbrev pub FirstFits : Command → ℕ → Type 0
-FirstFits Pages n = n ≤ 73728
-FirstFits Find n = Unit {0}
-FirstFits Load n = Unit {0}
-FirstFits Store n = Unit {0}
+FirstFits (Pages fill) n = n ≤ 73728
+FirstFits SetState n = Unit {0}
 FirstFits Sum n = Unit {0}
+FirstFits (OnPages request) n = Unit {0}
 
 -- what is needed of a number that a command can have at a place, counted from 0
 pub record Allowed (command : Command) (place n : ℕ) : Type 0 where

@@ -7,9 +7,15 @@ ghost use mathlib.Core.Path.{_≡_};
 ghost use mathlib.Core.Bool.{true};
 ghost use Prim.Native.Nat.{_≤_, _<_};
 ghost use lib.ListN.{length, take};
-ghost use Rattle.memory_script.specs.Line.{FirstFrom, Spelt, digitOf, numberOf, Allowed, Numbers, Read};
+ghost use Rattle.memory_script.specs.Line.{FirstFrom, Spelt, digitOf, numberOf, FirstFits, Allowed, Numbers, Read};
 ghost use Rattle.memory_script.specs.Access.{IsKind, IsWidth, IsSize, IsAccess};
 ghost use Rattle.memory_script.specs.Lent.{lentByte, Fresh, entriesOf, Lends, Bounded, Room};
+ghost use Rattle.memory_script.specs.Operation.{stateOf, instructionOf};
+ghost use Rattle.memory.specs.Pages.{spot};
+ghost use Rattle.memory.specs.Access.{putByte, write};
+ghost use Rattle.memory.specs.declared.address.Width.the-variants.{Bits64};
+mod operations;
+
 use libc::STDIN_FILENO;
 use libc::STDOUT_FILENO;
 use memory::Access;
@@ -23,9 +29,10 @@ use memory::Spot;
 use memory::Width;
 use processor::Answer;
 use processor::Fault;
-use processor::Outcome;
 use processor::Refusal;
 use processor::State;
+use crate::operations::Instruction;
+use crate::operations::operate;
 
 // The longest input, in bytes.
 const INPUT_LIMIT: usize = 262144;
@@ -38,9 +45,6 @@ const ENTRY_LIMIT: usize = 18;
 
 // The most numbers of a line: a length and the entries.
 const NUMBER_LIMIT: usize = ENTRY_LIMIT + 1;
-
-// Below these numbers are those of 32 bits.
-const WIDE_FROM: u64 = 0x1_0000_0000;
 
 // What bytes are lent as: each by its place, or all 0.
 enum Fill {
@@ -94,14 +98,6 @@ struct PageList {
 struct Session {
     list: PageList,
     state: State,
-}
-
-// One operation: its code, its length in bytes and its two words.
-struct Instruction {
-    code: u64,
-    length: u64,
-    a: u64,
-    b: u64,
 }
 
 // ---- reading a line
@@ -529,7 +525,9 @@ fn set_byte(address: u64, byte: u8, pages: &[u64], bytes: &mut [u8])
 }
 
 // Sets the eight bytes of a word, low byte first.
-fn set_word(address: u64, value: u64, pages: &[u64], bytes: &mut [u8]) {
+fn set_word(address: u64, value: u64, pages: &[u64], bytes: &mut [u8])
+    ensures { λ _. ⌜ now (bytes .exit) ≡ write (spot (now (pages .entry)) (length (now (bytes .entry)))) Bits64 address 8 value (now (bytes .entry)) ⌝ }
+{
     let width = Width::Bits64;
     let mut at = address;
     let mut rest = value;
@@ -588,63 +586,6 @@ fn instruction(numbers: &[u64; NUMBER_LIMIT]) -> Instruction
         length: numbers[1],
         a: numbers[2],
         b: numbers[3],
-    }
-}
-
-// Whether the words that an operation does not use are 0, and a displacement has 32 bits.
-fn words_fit(step: Instruction) -> bool {
-    match step.code {
-        1 | 2 => step.a == 0,
-        4 => step.a == 0 && step.b == 0,
-        5 | 6 => true,
-        7 => step.a < WIDE_FROM && step.b == 0,
-        _ => step.b == 0,
-    }
-}
-
-// Whether an operation has its form in a mode.
-fn mode_fits(step: Instruction, mode: u64) -> bool {
-    match mode {
-        0 => step.code < 7,
-        1 => !one_of(step.code, 2, 6) && step.a < WIDE_FROM && step.b < WIDE_FROM,
-        _ => true,
-    }
-}
-
-fn execute(step: Instruction, state: State, pages: &[u64], bytes: &mut [u8]) -> Outcome {
-    let length = step.length;
-    let a = step.a;
-    let b = step.b;
-    let permitted = state.permitted();
-    match step.code {
-        1 => shadow::incssp::execute(state, pages, bytes, Size::Four, b, length),
-        2 => shadow::incssp::execute(state, pages, bytes, Size::Eight, b, length),
-        3 => switches::rstorssp::execute(state, pages, bytes, a, length),
-        4 => switches::saveprevssp::execute(state, pages, bytes, length),
-        5 => shadow::wrss::execute(state, permitted, pages, bytes, Size::Four, a, b, length),
-        6 => shadow::wrss::execute(state, permitted, pages, bytes, Size::Eight, a, b, length),
-        7 => {
-            let target = calls::call::relative(state, a, length);
-            calls::call::execute(state, pages, bytes, target, length)
-        }
-        _ => calls::call::execute(state, pages, bytes, a, length),
-    }
-}
-
-// Runs an operation, or refuses it: a state out of range comes before a wrong form.
-fn operate(step: Instruction, state: State, pages: &[u64], bytes: &mut [u8]) -> Outcome {
-    if !state.in_range() {
-        return Outcome {
-            answer: Answer::Refused(Refusal::State),
-            state,
-        };
-    }
-    if words_fit(step) && mode_fits(step, state.mode) {
-        return execute(step, state, pages, bytes);
-    }
-    Outcome {
-        answer: Answer::Refused(Refusal::Instruction),
-        state,
     }
 }
 

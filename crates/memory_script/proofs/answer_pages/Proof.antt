@@ -59,7 +59,7 @@ returns c =
     record {
       given = rw (c .before .before .number .ensures, c .before .before .before .of .ensures, copied);
       entries-there = copied;
-      bytes-fresh = front-fresh (getD (start .args .numbers .now) 0 0) (start .args .bytes .now) (lent .last .0) _ (omega arith) back (lent .ensures);
+      bytes-fresh = front-fresh (start .args .fill) (getD (start .args .numbers .now) 0 0) (start .args .bytes .now) (lent .last .1 .0) _ (omega arith) back (lent .ensures);
     }
 
 pub answer-pages-spec : {M : Type 1} → statement M

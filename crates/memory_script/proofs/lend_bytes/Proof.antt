@@ -8,14 +8,15 @@ use lib.ListN.{length, getD, set, length-set}
 use borrow.Author.Count.{below-more}
 use borrow.Author.Needs.{needs}
 use Rattle.memory_script.specs.Lent.{lentByte}
+use Rattle.memory_script.specs.declared.Fill.{Fill}
 use Rattle.memory_script.proofs.lend_bytes.Statement.{statement}
 use Rattle.memory_script.proofs.lend_bytes.Tie as tie
 
 abbrev Inv-loop : tie.InvT-loop
-Inv-loop bytes₀ place₀ bytes place = (place ≤ length bytes) × (length bytes ≡ length bytes₀) × ((k : ℕ) → k < place → getD bytes k 0 ≡ lentByte k)
+Inv-loop fill bytes₀ place₀ bytes place = (place ≤ length bytes) × (length bytes ≡ length bytes₀) × ((k : ℕ) → k < place → getD bytes k 0 ≡ lentByte fill k)
 
 abbrev μ-loop : tie.MeasureT-loop
-μ-loop bytes₀ place₀ bytes place = length bytes - place
+μ-loop fill bytes₀ place₀ bytes place = length bytes - place
 
 loop-holds : tie.Need-loop-holds Inv-loop μ-loop
 loop-holds c = (omega arith, refl, λ k below. absurd (omega arith))
@@ -37,10 +38,11 @@ loop-again c =
     let at-loop = c .before .before in
     let bytes : List ℕ = at-loop .loop .bytes in
     let place : ℕ = at-loop .loop .place in
-    let byte : ℕ = c .lent-byte .result in (
+    let byte : ℕ = c .lent-byte .result in
+    let fill : Fill = at-loop .before .before .args .fill in (
       simp length-set (omega arith),
       simp length-set (at-loop .loop .inv .1),
-      below-more (λ (k : ℕ). getD (set bytes place byte) k 0 ≡ lentByte k) place
+      below-more (λ (k : ℕ). getD (set bytes place byte) k 0 ≡ lentByte fill k) place
           (λ k below. getD-set-other bytes place k byte 0 (λ e. omega arith) ∙ at-loop .loop .inv .2 k below)
           (getD-set-same bytes place byte 0 (c .before .loop-test .taken) ∙ c .lent-byte .ensures),
     )

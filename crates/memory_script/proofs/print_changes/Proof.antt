@@ -6,10 +6,10 @@ use Rattle.memory_script.proofs.print_changes.Statement.{statement}
 use Rattle.memory_script.proofs.print_changes.Tie as tie
 
 abbrev Inv-loop : tie.InvT-loop
-Inv-loop bytes place₀ t4 t5 place = Unit {0}
+Inv-loop fill bytes place₀ t5 t6 place = Unit {0}
 
 abbrev μ-loop : tie.MeasureT-loop
-μ-loop bytes place₀ t4 t5 place = length bytes - place
+μ-loop fill bytes place₀ t5 t6 place = length bytes - place
 
 loop-holds : tie.Need-loop-holds Inv-loop μ-loop
 loop-holds c = search needs

@@ -8,10 +8,13 @@ use Rattle.memory_script.proofs.run.Statement.{statement}
 use Rattle.memory_script.proofs.run.Tie as tie
 
 abbrev Inv-loop : tie.InvT-loop
-Inv-loop input pages₀ bytes₀ list₀ line-number₀ start₀ pages bytes list line-number start = (start ≤ length input + 1) × (line-number ≤ start + 1) × Bounded list × (length pages ≡ length pages₀) × (length bytes ≡ length bytes₀)
+Inv-loop input pages₀ bytes₀ session₀ line-number₀ start₀ pages bytes session line-number start = (start ≤ length input + 1) × (line-number ≤ start + 1) × Bounded (session .list) × (length pages ≡ length pages₀) × (length bytes ≡ length bytes₀)
 
 abbrev μ-loop : tie.MeasureT-loop
-μ-loop input pages₀ bytes₀ list₀ line-number₀ start₀ pages bytes list line-number start = length input - start
+μ-loop input pages₀ bytes₀ session₀ line-number₀ start₀ pages bytes session line-number start = length input - start
+
+first-session-requires : tie.Need-first-session-requires Inv-loop μ-loop
+first-session-requires c κs = search needs
 
 loop-holds : tie.Need-loop-holds Inv-loop μ-loop
 loop-holds c = search needs
@@ -58,6 +61,7 @@ run-spec =
     (tie.spec
     Inv-loop
     μ-loop
+    first-session-requires
     loop-holds
     find-byte-requires
     sub-answer-line
