@@ -40,10 +40,11 @@ inCode s target = cond (isLong s) (canonical target) (leb target (s .limit))
 abbrev pub pushed : State → Size
 pushed s = cond (isLong s) Eight Four
 
--- outside mode 2, bytes from this address on run past 2^32
+-- outside mode 2: 4 bytes from this address on run past 2^32
 unfoldable pub runsPast : State → ℕ → Bool
 runsPast s first = not (isLong s) && ltb (2 ^ 32) (first + 4)
 
+-- the call: Next on the ordinary stack and, where it is enabled, on the shadow stack; then the target
 unfoldable pub call : ℕ → ℕ → State → Prog State
 call target length s =
     let size : Size = pushed s in

@@ -42,6 +42,7 @@ pub fn relative(state: State, a: u64, length: u64) -> u64
     moved(state, state.next(length), displacement(a))
 }
 
+// Whether the target may be called.
 fn in_code(state: State, target: u64) -> bool
     ensures { λ r. ⌜ r ≡ inCode state target ⌝ }
 {
@@ -52,6 +53,7 @@ fn in_code(state: State, target: u64) -> bool
     }
 }
 
+// How many bytes each push has.
 fn pushed(state: State) -> Size
     ensures { λ r. ⌜ r ≡ pushedOf state ⌝ }
 {
@@ -62,6 +64,7 @@ fn pushed(state: State) -> Size
     }
 }
 
+// Whether a push of 4 bytes would run past the end of a 32-bit stack.
 fn runs_past(state: State, first: u64) -> bool
     ensures { λ r. ⌜ r ≡ runsPast state first ⌝ }
 {

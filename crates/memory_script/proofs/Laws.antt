@@ -11,16 +11,18 @@ use lib.Seq.{drop-cons, take-at, length-take-le, take-suc, take-suc-set, getD-dr
 use lib.Dec.{leb, lit<}
 use Rattle.memory.specs.Address.{plus}
 use Rattle.memory.specs.Pages.{Lookup}
-use Rattle.memory.specs.Access.{putByte, write}
+use Rattle.memory.specs.Access.{andThen, scan, putByte, write}
+use Rattle.memory.specs.declared.access.Reach.{Reach}
+use Rattle.memory.specs.declared.access.Reach.the-variants.{Ready}
 use Rattle.memory.specs.declared.address.Width.the-variants.{Bits64}
 use Rattle.memory_script.specs.Line.{spelling, digitOf, valueFrom, FirstFits, Numbers}
 use Rattle.memory_script.specs.Lent.{lentByte, Fresh, entriesOf, pageListOf, Bounded}
-use Rattle.memory_script.specs.declared.Command.{Command}
-use Rattle.memory_script.specs.declared.Command.the-variants.{Pages, SetState, Sum, OnPages}
-use Rattle.memory_script.specs.declared.Fill.{Fill}
-use Rattle.memory_script.specs.declared.Fill.the-variants.{Placed, Blank}
-use Rattle.memory_script.specs.declared.Request.the-variants.{Find, Load, Store, SetWord, Operate}
-use Rattle.memory_script.specs.declared.Number.the-variants.{Value, Malformed}
+use Rattle.memory_script.specs.declared.line.Command.{Command}
+use Rattle.memory_script.specs.declared.line.Command.the-variants.{Pages, SetState, Sum, OnPages}
+use Rattle.memory_script.specs.declared.line.Fill.{Fill}
+use Rattle.memory_script.specs.declared.line.Fill.the-variants.{Placed, Blank}
+use Rattle.memory_script.specs.declared.line.Request.the-variants.{Find, Load, Store, SetWord, Operate}
+use Rattle.memory_script.specs.declared.line.Number.the-variants.{Value, Malformed}
 
 -- ---- numbers
 
@@ -86,6 +88,17 @@ pub front-fresh : (fill : Fill) (n : ℕ) (bytes front rest : List ℕ) → n �
 front-fresh fill n bytes front rest room back fresh = rw (take-at front rest n (back ∙ length-take-le n bytes room)) fresh
 
 -- ---- words of eight bytes
+
+module _ (test : ℕ → Reach) (at : ℕ) where
+  pub scan-turn : (left : ℕ) → 0 < left → scan test Bits64 at left ≡ andThen (test at) (scan test Bits64 (plus Bits64 at 1) (left - 1))
+  unfolding scan
+  scan-turn zero more = absurd (omega arith)
+  scan-turn (suc n) more = simp unary-clauses
+
+  pub scan-end : (left : ℕ) → left ≤ 0 → scan test Bits64 at left ≡ Ready
+  unfolding scan
+  scan-end zero none = refl
+  scan-end (suc n) none = absurd (omega arith)
 
 module _ (look : Lookup) (at rest : ℕ) (bytes : List ℕ) where
   pub write-turn : (left : ℕ) → 0 < left → write look Bits64 at left rest bytes ≡ write look Bits64 (plus Bits64 at 1) (left - 1) (rest / 256) (putByte (look at) (rest % 256) bytes)

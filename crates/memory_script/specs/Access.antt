@@ -1,4 +1,4 @@
--- An access, as the numbers of a load or a store say it. Assumes nothing.
+-- An access, as the numbers of a load or a store say it, and what is asked of the bytes of a word. Assumes nothing.
 use Prim.Native.Nat.{ℕ, _^_, _<_}
 use mathlib.Core.Path.{_≡_}
 use mathlib.Core.Bool.{Bool}
@@ -6,11 +6,17 @@ use mathlib.Core.List.{List}
 use lib.ListN.{getD}
 use lib.Dec.{eqb}
 use Rattle.memory.specs.Address.{modulus}
+use Rattle.memory.specs.Pages.{Lookup}
 use Rattle.memory.specs.Access.{kindNumber, byteCount}
 use Rattle.memory.specs.declared.address.Width.{Width}
 use Rattle.memory.specs.declared.access.Kind.{Kind}
 use Rattle.memory.specs.declared.access.Size.{Size}
 use Rattle.memory.specs.declared.access.Access.{Access}
+use Rattle.memory.specs.declared.access.Failure.the-variants.{NotListed}
+use Rattle.memory.specs.declared.access.Reach.{Reach}
+use Rattle.memory.specs.declared.access.Reach.the-variants.{Ready, Blocked}
+use Rattle.memory.specs.declared.pages.Spot.{Spot}
+use Rattle.memory.specs.declared.pages.Spot.the-variants.{Unlisted, At}
 
 -- Each holds for the numbers that a line can have there.
 abbrev pub IsKind : ℕ → Kind → Type 0
@@ -30,3 +36,11 @@ pub record IsAccess (numbers : List ℕ) (store : Bool) (access : Access) : Type
   pub size-told : IsSize (getD numbers 3 0) (access .size)
   pub width-told : IsWidth (getD numbers 1 0) (access .width)
   pub canonical-told : access .canonical ≡ eqb (getD numbers 2 0) 1
+
+-- a byte of a word must be on a listed page, of any kind
+abbrev pub onAny : ℕ → Spot → Reach
+onAny address Unlisted = Blocked (NotListed address)
+onAny address (At kind place) = Ready
+
+abbrev pub anyByte : Lookup → ℕ → Reach
+anyByte look address = onAny address (look address)

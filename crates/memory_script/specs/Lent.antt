@@ -4,8 +4,8 @@ use mathlib.Core.Path.{_≡_}
 use mathlib.Core.List.{List}
 use lib.ListN.{length, getD, take, drop}
 use Rattle.memory.specs.Pages.{listing, refusalNumber}
-use Rattle.memory_script.specs.declared.Fill.{Fill}
-use Rattle.memory_script.specs.declared.Fill.the-variants.{Placed, Blank}
+use Rattle.memory_script.specs.declared.line.Fill.{Fill}
+use Rattle.memory_script.specs.declared.line.Fill.the-variants.{Placed, Blank}
 use Rattle.memory_script.specs.declared.PageList.{PageList}
 
 abbrev pub lentByte : Fill → ℕ → ℕ

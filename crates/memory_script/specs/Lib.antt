@@ -1,4 +1,4 @@
--- What the contracts of the script's reader cite.
+-- What the contracts of the script's program cite.
 pub mod Line
 pub mod Access
 pub mod Lent

@@ -5,16 +5,16 @@ use mathlib.Core.Bool.{cond, _&&_, _||_}
 use mathlib.Core.List.{List, [], _∷_}
 use lib.ListN.{length, getD}
 use lib.Dec.{eqb, leb, ltb}
-use Rattle.memory_script.specs.declared.Command.{Command}
-use Rattle.memory_script.specs.declared.Command.the-variants.{Pages, SetState, Sum, OnPages}
-use Rattle.memory_script.specs.declared.Fill.the-variants.{Placed, Blank}
-use Rattle.memory_script.specs.declared.Request.the-variants.{Find, Load, Store, SetWord, Operate}
-use Rattle.memory_script.specs.declared.Word.{Word}
-use Rattle.memory_script.specs.declared.Word.the-variants.{Known, Unknown}
-use Rattle.memory_script.specs.declared.Number.{Number}
-use Rattle.memory_script.specs.declared.Number.the-variants.{Value, Malformed}
-use Rattle.memory_script.specs.declared.Reading.{Reading}
-use Rattle.memory_script.specs.declared.Reading.the-variants.{Whole, Wrong}
+use Rattle.memory_script.specs.declared.line.Command.{Command}
+use Rattle.memory_script.specs.declared.line.Command.the-variants.{Pages, SetState, Sum, OnPages}
+use Rattle.memory_script.specs.declared.line.Fill.the-variants.{Placed, Blank}
+use Rattle.memory_script.specs.declared.line.Request.the-variants.{Find, Load, Store, SetWord, Operate}
+use Rattle.memory_script.specs.declared.line.Word.{Word}
+use Rattle.memory_script.specs.declared.line.Word.the-variants.{Known, Unknown}
+use Rattle.memory_script.specs.declared.line.Number.{Number}
+use Rattle.memory_script.specs.declared.line.Number.the-variants.{Value, Malformed}
+use Rattle.memory_script.specs.declared.line.Reading.{Reading}
+use Rattle.memory_script.specs.declared.line.Reading.the-variants.{Whole, Wrong}
 
 -- ---- fields
 

@@ -24,8 +24,16 @@ use Rattle.memory_script.specs.declared.operations.Instruction.{Instruct
 abbrev pub stateOf : List ℕ → State
 stateOf numbers =
     record {
-      mode = getD numbers 0 0; cpl = getD numbers 1 0; cet = getD numbers 2 0; ucet = getD numbers 3 0; scet = getD numbers 4 0;
-      ip = getD numbers 5 0; sp = getD numbers 6 0; ssp = getD numbers 7 0; flags = getD numbers 8 0; limit = getD numbers 9 0
+      mode = getD numbers 0 0;
+      cpl = getD numbers 1 0;
+      cet = getD numbers 2 0;
+      ucet = getD numbers 3 0;
+      scet = getD numbers 4 0;
+      ip = getD numbers 5 0;
+      sp = getD numbers 6 0;
+      ssp = getD numbers 7 0;
+      flags = getD numbers 8 0;
+      limit = getD numbers 9 0;
     }
 
 abbrev pub instructionOf : List ℕ → Instruction
@@ -52,6 +60,9 @@ narrow i = not (eqb (i .code) 2) && (not (eqb (i .code) 6) && (ltb (i .a) (2 ^ 3
 unfoldable pub modeFits : Instruction → ℕ → Bool
 modeFits i mode = cond (eqb mode 0) (ltb (i .code) 7) (cond (eqb mode 1) (narrow i) true)
 
+abbrev pub wellFormed : Instruction → ℕ → Bool
+wellFormed i mode = wordsFit i && modeFits i mode
+
 -- ---- what it does
 
 -- by its code
@@ -73,5 +84,5 @@ refused refusal s bytes = record { answer = Refused refusal; state = s; bytes = 
 unfoldable pub operated : Lookup → Instruction → State → List ℕ → Step
 operated look i s bytes =
     cond (inRange s)
-    (cond (wordsFit i && modeFits i (s .mode)) (operate look (program i s) s bytes) (refused BadForm s bytes))
+    (cond (wellFormed i (s .mode)) (operate look (program i s) s bytes) (refused BadForm s bytes))
     (refused BadState s bytes)

@@ -4,7 +4,7 @@ ghost use lib.ListN.{length as count};
 ghost use Rattle.memory.specs.Pages.{spot};
 ghost use Rattle.processor.specs.Prog.{operate as operateOf};
 ghost use Rattle.processor.specs.Outcomes.{stepOf};
-ghost use Rattle.memory_script.specs.Operation.{wordsFit, narrow as narrowOf, modeFits, program, operated};
+ghost use Rattle.memory_script.specs.Operation.{wordsFit, narrow as narrowOf, modeFits, wellFormed, program, operated};
 use memory::Size;
 use processor::Answer;
 use processor::Outcome;
@@ -65,6 +65,12 @@ fn mode_fits(step: Instruction, mode: u64) -> bool
     }
 }
 
+fn well_formed(step: Instruction, mode: u64) -> bool
+    ensures { λ r. ⌜ r ≡ wellFormed step mode ⌝ }
+{
+    words_fit(step) && mode_fits(step, mode)
+}
+
 // Runs a well-formed instruction.
 fn execute(step: Instruction, state: State, pages: &[u64], bytes: &mut [u8]) -> Outcome
     ensures { λ r. ⌜ stepOf r (now (bytes .exit)) ≡ operateOf (spot (now (pages .entry)) (count (now (bytes .entry)))) (program step state) state (now (bytes .entry)) ⌝ }
@@ -99,13 +105,7 @@ pub fn operate(step: Instruction, state: State, pages: &[u64], bytes: &mut [u8])
             state,
         };
     }
-    if !words_fit(step) {
-        return Outcome {
-            answer: Answer::Refused(Refusal::Instruction),
-            state,
-        };
-    }
-    if !mode_fits(step, state.mode) {
+    if !well_formed(step, state.mode) {
         return Outcome {
             answer: Answer::Refused(Refusal::Instruction),
             state,

@@ -30,6 +30,7 @@ notCanonical UserShadow = gp
 notCanonical SupervisorShadow = gp
 notCanonical Ordinary = ss
 
+-- the fault of an access that cannot be done; #PF names the byte
 abbrev pub blame : Access → Failure → Fault
 blame a NotCanonical = notCanonical (a .kind)
 blame a (NotListed address) = pageFault address

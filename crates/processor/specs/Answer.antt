@@ -4,7 +4,10 @@ use Rattle.processor.specs.declared.answer.Vector.{Vector}
 use Rattle.processor.specs.declared.answer.Vector.the-variants.{InvalidOpcode, Stack, Protection, Page, Control}
 use Rattle.processor.specs.declared.answer.Refusal.{Refusal}
 use Rattle.processor.specs.declared.answer.Refusal.the-variants.{Length, Kind, Address, Repeat, State, Instruction, Words}
+use Rattle.processor.specs.declared.answer.Answer.{Answer}
+use Rattle.processor.specs.declared.answer.Answer.the-variants.{Completed, Refused, Faulted}
 use Rattle.processor.specs.declared.answer.Fault.{Fault}
+use Rattle.processor.specs.declared.answer.Report.{Report}
 
 abbrev pub vectorNumber : Vector → ℕ
 vectorNumber InvalidOpcode = 6
@@ -51,3 +54,10 @@ controlFault code = faultOf Control code 0
 -- #CP(RSTORSSP)
 abbrev pub cpRstorssp : Fault
 cpRstorssp = controlFault 4
+
+-- ---- an answer in numbers
+
+abbrev pub reportOf : Answer → Report
+reportOf Completed = record { refusal = 0; vector = 0; code = 0; address = 0 }
+reportOf (Refused refusal) = record { refusal = refusalNumber refusal; vector = 0; code = 0; address = 0 }
+reportOf (Faulted fault) = record { refusal = 0; vector = vectorNumber (fault .vector); code = fault .code; address = fault .address }

@@ -49,7 +49,7 @@ store a v = put a v (done tt)
 abbrev pub storeBoth : Access → ℕ → Access → ℕ → Prog (Unit {0})
 storeBoth first u second v = store first u >> store second v
 
--- go on only where the test passes
+-- the fault, unless the test passes
 abbrev pub unless : Bool → Fault → Prog (Unit {0})
 unless t fault = cond t (done tt) (stop fault)
 

@@ -9,6 +9,7 @@ use Rattle.processor.specs.declared.state.State.{State}
 
 -- ---- the mode
 
+-- 64-bit mode
 abbrev pub isLong : State → Bool
 isLong s = eqb (s .mode) 2
 
@@ -53,9 +54,11 @@ permitted s = eqb (register s / 2 % 2) 1
 
 -- ---- refusal 5
 
+-- outside mode 2, IP, SP and SSP are below 2^32
 abbrev pub pointersFit : State → Bool
 pointersFit s = isLong s || (ltb (s .ip) (2 ^ 32) && (ltb (s .sp) (2 ^ 32) && ltb (s .ssp) (2 ^ 32)))
 
+-- every field is in its range
 unfoldable pub inRange : State → Bool
 inRange s =
     leb (s .mode) 2

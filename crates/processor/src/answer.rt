@@ -1,6 +1,6 @@
 // The answer to an operation or a run, and the numbers that it stands for.
 ghost use mathlib.Core.Path.{_≡_};
-ghost use Rattle.processor.specs.Answer.{vectorNumber, refusalNumber};
+ghost use Rattle.processor.specs.Answer.{vectorNumber, refusalNumber, reportOf};
 
 // The exceptions that can be raised.
 pub enum Vector {
@@ -25,19 +25,32 @@ pub struct Fault {
 
 // Why an input or an instruction is refused.
 pub enum Refusal {
+    // The page list: its length, a kind, an address, two equal addresses.
     Length,
     Kind,
     Address,
     Repeat,
+    // A field of the state.
     State,
+    // An instruction's form.
     Instruction,
+    // The number of words.
     Words,
 }
 
+// What an operation or a run answers.
 pub enum Answer {
     Completed,
     Refused(Refusal),
     Faulted(Fault),
+}
+
+// An answer in numbers: all 0 where it completed.
+pub struct Report {
+    pub refusal: u64,
+    pub vector: u64,
+    pub code: u64,
+    pub address: u64,
 }
 
 impl Vector {
@@ -66,6 +79,36 @@ impl Refusal {
             Refusal::State => 5,
             Refusal::Instruction => 6,
             Refusal::Words => 7,
+        }
+    }
+}
+
+impl Answer {
+    pub fn report(self) -> Report
+        ensures { λ r. ⌜ r ≡ reportOf self ⌝ }
+    {
+        match self {
+            Answer::Completed => Report {
+                refusal: 0,
+                vector: 0,
+                code: 0,
+                address: 0,
+            },
+            Answer::Refused(refusal) => Report {
+                refusal: refusal.number(),
+                vector: 0,
+                code: 0,
+                address: 0,
+            },
+            Answer::Faulted(fault) => {
+                let vector = fault.vector;
+                Report {
+                    refusal: 0,
+                    vector: vector.number(),
+                    code: fault.code,
+                    address: fault.address,
+                }
+            }
         }
     }
 }

@@ -9,6 +9,7 @@ mod stores;
 pub use answer::Answer;
 pub use answer::Fault;
 pub use answer::Refusal;
+pub use answer::Report;
 pub use answer::Vector;
 pub use outcome::Outcome;
 pub use outcome::blame;

@@ -11,11 +11,13 @@ use memory::Access;
 use memory::Failure;
 use memory::Kind;
 
+// The answer, and the state: from before the operation where it faulted.
 pub struct Outcome {
     pub answer: Answer,
     pub state: State,
 }
 
+// A fault, by its parts.
 fn raised(vector: Vector, code: u64, address: u64) -> Fault
     ensures { λ r. ⌜ r ≡ faultOf vector code address ⌝ }
 {
@@ -65,7 +67,7 @@ pub fn blame(access: Access, failure: Failure) -> Fault
 }
 
 impl State {
-    // The operation is done, and this is its state.
+    // The operation is done: this is its state, with IP moved on.
     pub fn complete(mut self, ip: u64) -> Outcome
         ensures { λ r. ⌜ r ≡ completed self ip ⌝ }
     {

@@ -31,8 +31,8 @@ pub fn store_both(
         Reach::Ready => match second.probe(pages, bytes.len()) {
             Reach::Blocked(failure) => Stored::NoneStored(blame(second, failure)),
             Reach::Ready => {
-                let one = first.store(pages, bytes, u);
-                let two = second.store(pages, bytes, v);
+                let first_reach = first.store(pages, bytes, u);
+                let second_reach = second.store(pages, bytes, v);
                 Stored::AllStored
             }
         },

@@ -10,7 +10,7 @@ use Rattle.processor.specs.Accesses.{shadow}
 use Rattle.processor.specs.Prog.{Prog, done, _>>=_, _>>_, touch, unless, onlyIf}
 use Rattle.processor.specs.declared.state.State.{State}
 
--- `b` is the count register: Range is its low 8 bits
+-- `b` is the count register: Range is its low 8 bits. The first and the last element popped are loaded, the first also where Range is 0
 unfoldable pub incssp : Size → ℕ → ℕ → State → Prog State
 incssp size b length s =
     let range : ℕ = b % 256 in

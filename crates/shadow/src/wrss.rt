@@ -11,7 +11,8 @@ use processor::Outcome;
 use processor::State;
 use processor::Vector;
 
-// `permitted` is whether WR_SHSTK_EN is set for this CPL: the one thing that an operation is told of it.
+// `permitted` is whether WR_SHSTK_EN is set for this CPL, as `State::permitted` says. The operation does not read that bit itself, so
+// that whether it is set can alter nothing else.
 pub fn execute(
     state: State,
     permitted: bool,

@@ -10,7 +10,7 @@ use Rattle.processor.specs.Prog.{Prog, done, _>>=_, _>>_, load, storeBoth, unle
 use Rattle.processor.specs.declared.state.State.{State}
 use Rattle.switches.specs.Bits.{bit, multiple}
 
--- CF
+-- CF, bit 0 of RFLAGS
 abbrev pub carry : State → Bool
 carry s = eqb (s .flags % 2) 1
 
@@ -31,7 +31,8 @@ newTop s top = do
 unfoldable pub savedToken : State → ℕ → Bool
 savedToken s token = eqb (bit 1 token) 1 && (isLong s || ltb token (2 ^ 32))
 
--- With the token popped: the hole, the token's checks, then 4 zero bytes below Old and a restore token below those, at a multiple of 8.
+-- With the token popped: the hole, the token's checks, then 4 zero bytes below Old, and a restore token 8 below Old rounded down to a
+-- multiple of 8; where Old is one, the token covers the zero bytes.
 unfoldable pub leaveToken : ℕ → ℕ → State → Prog State
 leaveToken token length s =
     let old : ℕ = multiple 4 token in
@@ -41,6 +42,7 @@ leaveToken token length s =
       storeBoth (shadow s (minus s old 4) Four true) 0 (shadow s (minus s (multiple 8 old) 8) Eight true) (old + longBit s)
       done (withIp (withSsp s top) (next s length))
 
+-- the whole operation: the previous-SSP token is popped, and a restore token left on the stack that it names
 unfoldable pub saveprevssp : ℕ → State → Prog State
 saveprevssp length s = do
   unless (usable s) ud  -- #UD

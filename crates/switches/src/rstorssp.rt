@@ -22,6 +22,7 @@ fn home(token: u64) -> u64
     below - below % 8
 }
 
+// Whether the token at an address may be restored.
 fn good_token(state: State, a: u64, token: u64) -> bool
     ensures { λ r. ⌜ r ≡ goodToken state a token ⌝ }
 {
@@ -49,6 +50,7 @@ fn restored_flags(flags: u64, token: u64) -> u64
     pf - pf % 2 + token / 4 % 2
 }
 
+// `a` is the address of the token.
 pub fn execute(state: State, pages: &[u64], bytes: &mut [u8], a: u64, length: u64) -> Outcome
     ensures { λ r. ⌜ stepOf r (now (bytes .exit)) ≡ operate (spot (now (pages .entry)) (count (now (bytes .entry)))) (rstorsspOf a length state) state (now (bytes .entry)) ⌝ }
 {

@@ -20,12 +20,14 @@ enum Popped {
     Failed(Fault),
 }
 
+// CF.
 fn carry(state: State) -> bool
     ensures { λ r. ⌜ r ≡ carryOf state ⌝ }
 {
     state.flags % 2 == 1
 }
 
+// Pops the 4 bytes of the hole, which must be 0.
 fn pop_hole(state: State, pages: &[u64], bytes: &[u8], top: u64) -> Popped
     ensures { λ r. ⌜ resultOf r (now (bytes .entry)) ≡ interp (spot (now (pages .entry)) (count (now (bytes .entry)))) (popHole state top) (now (bytes .entry)) ⌝ }
 {
@@ -42,6 +44,7 @@ fn pop_hole(state: State, pages: &[u64], bytes: &[u8], top: u64) -> Popped
     }
 }
 
+// Pops the hole where CF says that there is one.
 fn new_top(state: State, pages: &[u64], bytes: &[u8], top: u64) -> Popped
     ensures { λ r. ⌜ resultOf r (now (bytes .entry)) ≡ interp (spot (now (pages .entry)) (count (now (bytes .entry)))) (newTop state top) (now (bytes .entry)) ⌝ }
 {
@@ -54,6 +57,7 @@ fn new_top(state: State, pages: &[u64], bytes: &[u8], top: u64) -> Popped
     pop_hole(state, pages, bytes, top)
 }
 
+// Whether the token names a previous shadow stack.
 fn saved_token(state: State, token: u64) -> bool
     ensures { λ r. ⌜ r ≡ savedToken state token ⌝ }
 {
@@ -66,6 +70,7 @@ fn saved_token(state: State, token: u64) -> bool
     token < 0x1_0000_0000
 }
 
+// With the token popped: checks it, and leaves a restore token on the stack that it names.
 fn leave_token(state: State, pages: &[u64], bytes: &mut [u8], token: u64, length: u64) -> Outcome
     ensures { λ r. ⌜ stepOf r (now (bytes .exit)) ≡ operate (spot (now (pages .entry)) (count (now (bytes .entry)))) (leaveToken token length state) state (now (bytes .entry)) ⌝ }
 {
@@ -89,6 +94,7 @@ fn leave_token(state: State, pages: &[u64], bytes: &mut [u8], token: u64, length
     }
 }
 
+// Pops the previous-SSP token off the stack.
 pub fn execute(state: State, pages: &[u64], bytes: &mut [u8], length: u64) -> Outcome
     ensures { λ r. ⌜ stepOf r (now (bytes .exit)) ≡ operate (spot (now (pages .entry)) (count (now (bytes .entry)))) (saveprevsspOf length state) state (now (bytes .entry)) ⌝ }
 {

@@ -378,6 +378,18 @@ impl Author {
         sketch.cut(page + steps * step)
     }
 
+    /// The last eight bytes of a page for shadow stacks.
+    fn last_place(&mut self, sketch: &Sketch) -> u64 {
+        let page = self.dice.one_of(&self.stage.shadow);
+        sketch.cut(page + (PAGE_BYTES - 8))
+    }
+
+    /// So many bytes that an address is no multiple of 4 or 8 any more.
+    fn misstep(&mut self, size: u64) -> u64 {
+        let any = self.dice.between(1, size - 1);
+        self.dice.one_of(&[size / 2, any])
+    }
+
     /// Whether the page of an address may be listed.
     fn may_hold(&self, address: u64) -> bool {
         let page = address - address % PAGE_BYTES;
@@ -433,6 +445,9 @@ impl Author {
         }
         if sketch.mode == 0 && code >= 7 && !self.dice.once_in(3) {
             return;
+        }
+        if code == 7 && self.dice.once_in(40) {
+            a += FOUR_GIB;
         }
         if self.dice.once_in(40) {
             match self.dice.below(4) {
@@ -505,10 +520,14 @@ impl Author {
 
     fn restore_scene(&mut self) {
         let sketch = self.sketch();
-        let at = self.inside_shadow(&sketch, 8);
+        let at = if self.dice.once_in(5) {
+            self.last_place(&sketch)
+        } else {
+            self.inside_shadow(&sketch, 8)
+        };
         let token = self.restore_token(&sketch, at);
         let asked = match self.dice.below(12) {
-            0 => at + self.dice.between(1, 7),
+            0 => at + self.misstep(8),
             1 => self.near_ordinary(&sketch, 8),
             _ => at,
         };
@@ -555,8 +574,7 @@ impl Author {
         sketch.flags = (sketch.flags & !1) + u64::from(carry);
         if carry && self.dice.once_in(6) {
             // The token ends with a page, the gap would lie on the next.
-            let page = self.dice.one_of(&self.stage.shadow);
-            sketch.ssp = sketch.cut(page + (PAGE_BYTES - 8));
+            sketch.ssp = self.last_place(&sketch);
         }
         let top = sketch.ssp;
         if self.dice.once_in(16) {
@@ -627,8 +645,8 @@ impl Author {
             let size = 4 * (code - 4);
             let mut at = self.near_shadow(&sketch, size);
             match self.dice.below(10) {
-                0 => at += self.dice.between(1, size - 1),
-                1 => at = self.near_ordinary(&sketch, size),
+                0 | 1 => at += self.misstep(size),
+                2 => at = self.near_ordinary(&sketch, size),
                 _ => {}
             }
             let length = self.length();
@@ -700,13 +718,20 @@ impl Author {
         }
     }
 
-    /// A shadow stack pointer, now and then one beside the hole.
+    /// A shadow stack pointer, now and then one with little room below.
     fn call_ssp(&mut self, sketch: &Sketch) -> u64 {
-        if sketch.is_wide() && self.dice.once_in(10) {
-            let edge = self.dice.one_of(&[HOLE, ABOVE_HOLE]);
-            edge + self.dice.one_of(&[0, 4, 8])
+        let edges: &[u64] = if sketch.is_wide() {
+            &[0, HOLE, ABOVE_HOLE]
         } else {
-            self.inside_shadow(sketch, 4)
+            &[0, FOUR_GIB - 4]
+        };
+        match self.dice.below(10) {
+            0 => sketch.cut(self.dice.one_of(edges) + self.dice.one_of(&[0, 4, 8])),
+            1 => {
+                let page = self.dice.one_of(&self.stage.shadow);
+                sketch.cut(page + self.dice.one_of(&[0, 4, 8]))
+            }
+            _ => self.inside_shadow(sketch, 4),
         }
     }
 

@@ -8,7 +8,7 @@ use lib.ListN.{length, getD, set, length-set}
 use borrow.Author.Count.{below-more}
 use borrow.Author.Needs.{needs}
 use Rattle.memory_script.specs.Lent.{lentByte}
-use Rattle.memory_script.specs.declared.Fill.{Fill}
+use Rattle.memory_script.specs.declared.line.Fill.{Fill}
 use Rattle.memory_script.proofs.lend_bytes.Statement.{statement}
 use Rattle.memory_script.proofs.lend_bytes.Tie as tie
 

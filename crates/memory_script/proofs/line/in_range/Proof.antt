@@ -1,9 +1,9 @@
--- `memory_script::in_range` meets its contract: only a page list asks something of its first number. Assumes nothing.
+-- `memory_script::line::in_range` meets its contract: only a page list asks something of its first number. Assumes nothing.
 use native.Mathlib.Omega.{arith}
 use borrow.Author.Tests.{leb-true}
 use borrow.Author.Needs.{needs}
-use Rattle.memory_script.proofs.in_range.Statement.{statement}
-use Rattle.memory_script.proofs.in_range.Tie as tie
+use Rattle.memory_script.proofs.line.in_range.Statement.{statement}
+use Rattle.memory_script.proofs.line.in_range.Tie as tie
 
 enum-told : tie.Need-enum-told
 enum-told c = search needs

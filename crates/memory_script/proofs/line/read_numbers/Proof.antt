@@ -1,4 +1,4 @@
--- `memory_script::read_numbers` meets its contract. The loop's invariant: there are at most 19 numbers so far, and the first is as the command asks. Assumes nothing.
+-- `memory_script::line::read_numbers` meets its contract. The loop's invariant: there are at most 19 numbers so far, and the first is as the command asks. Assumes nothing.
 use Prim.Native.Nat.{_≤_, _<_, _-_}
 use mathlib.Core.Path.{_≡_}
 use native.Mathlib.Omega.{arith}
@@ -7,8 +7,8 @@ use borrow.Author.Tests.{not-false}
 use borrow.Author.Needs.{needs}
 use Rattle.memory_script.specs.Line.{FirstFits}
 use Rattle.memory_script.proofs.Laws.{first-kept}
-use Rattle.memory_script.proofs.read_numbers.Statement.{statement}
-use Rattle.memory_script.proofs.read_numbers.Tie as tie
+use Rattle.memory_script.proofs.line.read_numbers.Statement.{statement}
+use Rattle.memory_script.proofs.line.read_numbers.Tie as tie
 
 abbrev Inv-loop : tie.InvT-loop
 Inv-loop command fields numbers₀ count₀ at₀ numbers count at = (at ≤ length fields) × (count ≤ 19) × (length numbers ≡ 19) × (0 < count → FirstFits command (getD numbers 0 0))

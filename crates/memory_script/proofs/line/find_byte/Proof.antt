@@ -1,11 +1,11 @@
--- `memory_script::find_byte` meets its contract. The loop's invariant: the byte stands at no place passed. Assumes nothing.
+-- `memory_script::line::find_byte` meets its contract. The loop's invariant: the byte stands at no place passed. Assumes nothing.
 use Prim.Native.Nat.{ℕ, _≤_, _<_, _-_}
 use mathlib.Core.Path.{_≡_}
 use native.Mathlib.Omega.{arith}
 use lib.ListN.{length, getD}
 use borrow.Author.Count.{below-more}
-use Rattle.memory_script.proofs.find_byte.Statement.{statement}
-use Rattle.memory_script.proofs.find_byte.Tie as tie
+use Rattle.memory_script.proofs.line.find_byte.Statement.{statement}
+use Rattle.memory_script.proofs.line.find_byte.Tie as tie
 
 abbrev Inv-loop : tie.InvT-loop
 Inv-loop text from stop i₀ i = (from ≤ i) × (i ≤ length text) × ((k : ℕ) → k < i → from ≤ k → getD text k 0 ≡ stop → ⊥)

@@ -1,4 +1,4 @@
--- `memory_script::read_number` meets its contract. The loop's invariant: i digits make a value below 16 ^ i, and the number is that of the rest after it. Assumes nothing.
+-- `memory_script::line::read_number` meets its contract. The loop's invariant: i digits make a value below 16 ^ i, and the number is that of the rest after it. Assumes nothing.
 use Prim.Native.Nat.{ℕ, _≤_, _<_, _-_, _+_, _*_, _^_}
 use mathlib.Core.Path.{_≡_, sym, ap, _∙_}
 use native.Mathlib.Omega.{arith}
@@ -8,8 +8,8 @@ use borrow.Author.Tests.{eq-eqb, ne-eqb, le-leb, lt-leb, lt-ltb, le-ltb}
 use borrow.Author.Needs.{needs}
 use Rattle.memory_script.specs.Line.{numberOf, valueFrom}
 use Rattle.memory_script.proofs.Laws.{value-turn, value-end, value-room, value-grows}
-use Rattle.memory_script.proofs.read_number.Statement.{statement}
-use Rattle.memory_script.proofs.read_number.Tie as tie
+use Rattle.memory_script.proofs.line.read_number.Statement.{statement}
+use Rattle.memory_script.proofs.line.read_number.Tie as tie
 
 abbrev Inv-loop : tie.InvT-loop
 Inv-loop field value₀ i₀ value i = (i ≤ length field) × (value < 16 ^ i) × (numberOf field ≡ valueFrom value (drop i field))

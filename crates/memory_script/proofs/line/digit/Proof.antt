@@ -1,10 +1,10 @@
--- `memory_script::digit` meets its contract, by the ranges of the byte. Assumes nothing.
+-- `memory_script::line::digit` meets its contract, by the ranges of the byte. Assumes nothing.
 use Prim.Native.Nat.{ℕ}
 use native.Mathlib.Omega.{arith}
 use borrow.Author.Tests.{le-leb, lt-leb}
 use borrow.Author.Needs.{needs}
-use Rattle.memory_script.proofs.digit.Statement.{statement}
-use Rattle.memory_script.proofs.digit.Tie as tie
+use Rattle.memory_script.proofs.line.digit.Statement.{statement}
+use Rattle.memory_script.proofs.line.digit.Tie as tie
 
 wide-requires : tie.Need-wide-requires
 wide-requires c κs = search needs

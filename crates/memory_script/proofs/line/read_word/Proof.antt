@@ -1,8 +1,8 @@
--- `memory_script::read_word` meets its contract, by what each comparison says. Assumes nothing.
+-- `memory_script::line::read_word` meets its contract, by what each comparison says. Assumes nothing.
 use borrow.Author.Needs.{needs}
 use Rattle.memory_script.proofs.Laws.{no-word, not-both}
-use Rattle.memory_script.proofs.read_word.Statement.{statement}
-use Rattle.memory_script.proofs.read_word.Tie as tie
+use Rattle.memory_script.proofs.line.read_word.Statement.{statement}
+use Rattle.memory_script.proofs.line.read_word.Tie as tie
 
 slice-aggregate-same : tie.Need-slice-aggregate-same
 slice-aggregate-same c = search needs
