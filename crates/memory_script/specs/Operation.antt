@@ -1,6 +1,6 @@
 -- What a line's operation is: the form that it must have, and what it does. Assumes nothing.
 use Prim.Native.Nat.{ℕ, _^_}
-use mathlib.Core.Bool.{Bool, true, not, cond, _&&_, _||_}
+use mathlib.Core.Bool.{Bool, true, not, cond, _&&_}
 use mathlib.Core.List.{List}
 use lib.ListN.{getD}
 use lib.Dec.{eqb, ltb}
@@ -60,12 +60,12 @@ narrow i = not (eqb (i .code) 2) && (not (eqb (i .code) 6) && (ltb (i .a) (2 ^ 3
 unfoldable pub modeFits : Instruction → ℕ → Bool
 modeFits i mode = cond (eqb mode 0) (ltb (i .code) 7) (cond (eqb mode 1) (narrow i) true)
 
-abbrev pub wellFormed : Instruction → ℕ → Bool
+unfoldable pub wellFormed : Instruction → ℕ → Bool
 wellFormed i mode = wordsFit i && modeFits i mode
 
 -- ---- what it does
 
--- by its code
+-- by its code, 1 to 8; the lengths are 1 to 15. A line with others is malformed, and gets no answer
 unfoldable pub program : Instruction → State → Prog State
 program i s =
     cond (eqb (i .code) 1) (incssp Four (i .b) (i .length) s)

@@ -71,7 +71,7 @@ fn well_formed(step: Instruction, mode: u64) -> bool
     words_fit(step) && mode_fits(step, mode)
 }
 
-// Runs a well-formed instruction.
+// Runs a well-formed instruction. A line is read with codes 1 to 8 and lengths 1 to 15 only, so what is left is code 8.
 fn execute(step: Instruction, state: State, pages: &[u64], bytes: &mut [u8]) -> Outcome
     ensures { λ r. ⌜ stepOf r (now (bytes .exit)) ≡ operateOf (spot (now (pages .entry)) (count (now (bytes .entry)))) (program step state) state (now (bytes .entry)) ⌝ }
 {

@@ -19,24 +19,17 @@ const FOUR_GIB: u64 = 1 << 32;
 const LOW_HALF: u64 = FOUR_GIB - 1;
 
 /// Neighbouring pages of 64-bit mode.
-const WIDE_REGIONS: [[u64; 2]; 7] = [
+const WIDE_REGIONS: [[u64; 2]; 6] = [
     [0x1000, 0x2000],
-    [0, 0x1000],
     [0xffff_f000, FOUR_GIB],
     [HOLE - 2 * PAGE_BYTES, HOLE - PAGE_BYTES],
     [HOLE - PAGE_BYTES, ABOVE_HOLE],
-    [LAST_PAGE, 0],
     [ABOVE_HOLE, ABOVE_HOLE + PAGE_BYTES],
+    [LAST_PAGE, 0],
 ];
 
 /// Neighbouring pages of the other modes. The very last one can't be reached.
-const NARROW_REGIONS: [[u64; 2]; 5] = [
-    [0x1000, 0x2000],
-    [0, 0x1000],
-    [0xffff_e000, 0xffff_f000],
-    [0xffff_f000, 0],
-    [0xffff_f000, FOUR_GIB],
-];
+const NARROW_REGIONS: [[u64; 2]; 3] = [[0x1000, 0x2000], [0xffff_f000, 0], [0xffff_f000, FOUR_GIB]];
 
 /// Addresses where something ends or begins.
 const LANDMARKS: [u64; 5] = [0, 1 << 31, FOUR_GIB, HOLE, ABOVE_HOLE];
@@ -81,6 +74,7 @@ struct Sketch {
 }
 
 impl Sketch {
+    /// Whether the mode is 64-bit mode.
     fn is_wide(&self) -> bool {
         self.mode == 2
     }
@@ -108,6 +102,7 @@ impl Sketch {
         }
     }
 
+    /// The fields in their order.
     fn numbers(&self) -> [u64; 10] {
         [
             self.mode,
@@ -178,7 +173,7 @@ impl Author {
 
     /// Lends pages, good ones in most cases.
     fn set_stage(&mut self) {
-        let wide = !self.dice.once_in(3);
+        let wide = self.dice.below(5) < 3;
         let user = self.dice.once_in(2);
         let shadow = self.region(wide);
         let mut ordinary = self.region(wide);
@@ -384,7 +379,7 @@ impl Author {
         sketch.cut(page + (PAGE_BYTES - 8))
     }
 
-    /// So many bytes that an address is no multiple of 4 or 8 any more.
+    /// So many bytes that a multiple of a size is none after them.
     fn misstep(&mut self, size: u64) -> u64 {
         let any = self.dice.between(1, size - 1);
         self.dice.one_of(&[size / 2, any])
@@ -480,6 +475,7 @@ impl Author {
 
     // INCSSP.
 
+    /// Elements are dropped about where a page ends.
     fn increment_scene(&mut self) {
         let mut sketch = self.sketch();
         let code = self.dice.between(1, 2);
@@ -518,6 +514,7 @@ impl Author {
 
     // RSTORSSP.
 
+    /// A token is set and used, and perhaps the way is gone back.
     fn restore_scene(&mut self) {
         let sketch = self.sketch();
         let at = if self.dice.once_in(5) {
@@ -565,6 +562,7 @@ impl Author {
 
     // SAVEPREVSSP.
 
+    /// A token of a previous pointer is set and popped.
     fn save_scene(&mut self) {
         let mut sketch = self.sketch();
         sketch.ssp = self.inside_shadow(&sketch, 8);
@@ -634,6 +632,7 @@ impl Author {
 
     // WRSS.
 
+    /// Values are written about where a page ends.
     fn write_scene(&mut self) {
         let mut sketch = self.sketch();
         let permitted = !self.dice.once_in(6);
@@ -660,6 +659,7 @@ impl Author {
 
     // CALL.
 
+    /// A call goes to a target close to something that bounds it, or not.
     fn call_scene(&mut self) {
         let mut sketch = self.sketch();
         sketch.sp = self.call_sp(&sketch);

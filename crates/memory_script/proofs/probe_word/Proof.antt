@@ -10,13 +10,13 @@ use Rattle.memory_script.proofs.probe_word.Statement.{statement}
 use Rattle.memory_script.proofs.probe_word.Tie as tie
 
 abbrev Inv-loop : tie.InvT-loop
-Inv-loop address pages lent width at₀ left₀ at left = (scan (anyByte (spot pages lent)) Bits64 address 8 ≡ scan (anyByte (spot pages lent)) Bits64 at left) × (width ≡ Bits64)
+Inv-loop address pages lent width at₀ left₀ at left = scan (anyByte (spot pages lent)) Bits64 address 8 ≡ scan (anyByte (spot pages lent)) Bits64 at left
 
 abbrev μ-loop : tie.MeasureT-loop
 μ-loop address pages lent width at₀ left₀ at left = left
 
 loop-holds : tie.Need-loop-holds Inv-loop μ-loop
-loop-holds c = (refl, refl)
+loop-holds c = refl
 
 find-requires : tie.Need-find-requires Inv-loop μ-loop
 find-requires c κs = search needs
@@ -25,7 +25,9 @@ enum-told : tie.Need-enum-told Inv-loop μ-loop
 enum-told c = search needs
 
 returns : tie.Need-returns Inv-loop μ-loop
-returns c = ?
+returns c =
+    let led = sym (c .before .before .find .ensures) ∙ c .enum-told .given .1 in
+    rw (c .before .before .before .before .loop .inv, scan-turn _ _ _ (c .before .before .before .loop-test .taken), led)
 
 enum-told-2 : tie.Need-enum-told-2 Inv-loop μ-loop
 enum-told-2 c = search needs
@@ -40,10 +42,12 @@ loop-less : tie.Need-loop-less Inv-loop μ-loop
 loop-less c = search needs
 
 loop-again : tie.Need-loop-again Inv-loop μ-loop
-loop-again c = ?
+loop-again c =
+    let led = sym (c .before .before .before .find .ensures) ∙ c .before .enum-told2 .given .1 in
+    rw (c .before .before .before .before .before .loop .inv, scan-turn _ _ _ (c .before .before .before .before .loop-test .taken), led, c .plus .ensures)
 
 returns-2 : tie.Need-returns-2 Inv-loop μ-loop
-returns-2 c = sym (c .before .loop .inv .0 ∙ scan-end _ _ _ (c .loop-test .left))
+returns-2 c = sym (c .before .loop .inv ∙ scan-end _ _ _ (c .loop-test .left))
 
 pub probe-word-spec : {M : Type 1} → statement M
 probe-word-spec =

@@ -10,13 +10,13 @@ use Rattle.memory_script.proofs.set_word.Statement.{statement}
 use Rattle.memory_script.proofs.set_word.Tie as tie
 
 abbrev Inv-loop : tie.InvT-loop
-Inv-loop address value pages bytes₀ width at₀ rest₀ left₀ bytes at rest left = (write (spot pages (length bytes₀)) Bits64 address 8 value bytes₀ ≡ write (spot pages (length bytes₀)) Bits64 at left rest bytes) × (length bytes ≡ length bytes₀) × (width ≡ Bits64)
+Inv-loop address value pages bytes₀ width at₀ rest₀ left₀ bytes at rest left = (write (spot pages (length bytes₀)) Bits64 address 8 value bytes₀ ≡ write (spot pages (length bytes₀)) Bits64 at left rest bytes) × (length bytes ≡ length bytes₀)
 
 abbrev μ-loop : tie.MeasureT-loop
 μ-loop address value pages bytes₀ width at₀ rest₀ left₀ bytes at rest left = left
 
 loop-holds : tie.Need-loop-holds Inv-loop μ-loop
-loop-holds c = (refl, refl, refl)
+loop-holds c = (refl, refl)
 
 cast-set-byte : tie.Need-cast-set-byte Inv-loop μ-loop
 cast-set-byte c = search needs
@@ -38,7 +38,6 @@ loop-again c =
     let inv = c .before .before .before .before .before .before .loop .inv in (
       rw (inv .0, write-turn _ _ _ _ _ (c .before .before .before .before .before .loop-test .taken), c .plus .ensures, c .before .before .before .set-byte .ensures, inv .1),
       search needs,
-      inv .2,
     )
 
 same-length : tie.Need-same-length Inv-loop μ-loop

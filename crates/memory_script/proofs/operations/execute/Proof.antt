@@ -1,7 +1,7 @@
 -- `memory_script::operations::execute` meets its contract: each code runs its own operation. Assumes nothing.
 use borrow.Author.Tests.{ne-eqb}
-use Rattle.memory_script.specs.Operation.{program}
 use borrow.Author.Needs.{needs}
+use Rattle.memory_script.specs.Operation.{program}
 use Rattle.memory_script.proofs.operations.execute.Statement.{statement}
 use Rattle.memory_script.proofs.operations.execute.Tie as tie
 

@@ -1,7 +1,7 @@
 -- `memory_script::operations::mode_fits` meets its contract, mode by mode. Assumes nothing.
 use borrow.Author.Tests.{ne-eqb}
-use Rattle.memory_script.specs.Operation.{modeFits}
 use borrow.Author.Needs.{needs}
+use Rattle.memory_script.specs.Operation.{modeFits}
 use Rattle.memory_script.proofs.operations.mode_fits.Statement.{statement}
 use Rattle.memory_script.proofs.operations.mode_fits.Tie as tie
 
