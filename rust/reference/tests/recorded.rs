@@ -26,7 +26,7 @@ fn assert_recorded(script: &str, answers: &str) {
 
 #[test]
 fn the_boundary_script() {
-    assert_recorded("crates/memory_script/stdin", "crates/memory_script/stdout");
+    assert_recorded("crates/script/stdin", "crates/script/stdout");
 }
 
 #[test]
