@@ -57,7 +57,7 @@ pub enum Reading {
 }
 
 // Where a field or a line ends: the first place from a place on that has the byte, or the text's end.
-pub fn find_byte(text: &[u8], from: usize, stop: u8) -> usize
+pub(crate) fn find_byte(text: &[u8], from: usize, stop: u8) -> usize
     requires { ⌜ from ≤ length (now text) ⌝ }
     ensures { λ r. ⌜ FirstFrom (now (text .entry)) from stop r ⌝ }
 {
@@ -71,7 +71,7 @@ pub fn find_byte(text: &[u8], from: usize, stop: u8) -> usize
     i
 }
 
-pub fn read_word(text: &[u8]) -> Word
+pub(crate) fn read_word(text: &[u8]) -> Word
     ensures { λ r. ⌜ Spelt (now (text .entry)) r ⌝ }
 {
     if check::same(text, b"pages") {
@@ -104,7 +104,7 @@ pub fn read_word(text: &[u8]) -> Word
     Word::Unknown
 }
 
-pub fn wide(byte: u8) -> u64
+pub(crate) fn wide(byte: u8) -> u64
     ensures { λ r. ⌜ r ≡ byte ⌝ }
 {
     byte as u64
@@ -224,7 +224,11 @@ fn allows(command: Command, place: usize, n: u64) -> bool
 
 // Reads the fields after a line's word, each with the space before it. The word is field 1, so the number at a place is field
 // place + 2.
-pub fn read_numbers(command: Command, fields: &[u8], numbers: &mut [u64; NUMBER_LIMIT]) -> Reading
+pub(crate) fn read_numbers(
+    command: Command,
+    fields: &[u8],
+    numbers: &mut [u64; NUMBER_LIMIT],
+) -> Reading
     requires { ⌜ length (now numbers) ≡ 19 ⌝ }
     ensures { λ r. ⌜ Read command (now (numbers .exit)) r ⌝ }
 {

@@ -96,7 +96,7 @@ fn execute(step: Instruction, state: State, pages: &[u64], bytes: &mut [u8]) -> 
 }
 
 // Runs an instruction, or refuses it: a state out of range comes before a wrong form.
-pub fn operate(step: Instruction, state: State, pages: &[u64], bytes: &mut [u8]) -> Outcome
+pub(crate) fn operate(step: Instruction, state: State, pages: &[u64], bytes: &mut [u8]) -> Outcome
     ensures { λ r. ⌜ stepOf r (now (bytes .exit)) ≡ operated (spot (now (pages .entry)) (count (now (bytes .entry)))) step state (now (bytes .entry)) ⌝ }
 {
     if !state.in_range() {
