@@ -1,0 +1,45 @@
+-- The ledger of the shadow stack pointer (docs/RULES.md, "A ledger of the pointer"). Assumes nothing.
+use Prim.Native.Nat.{ℕ, zero, suc, _+_, _*_, _%_, _<_}
+use mathlib.Core.Path.{_≡_}
+use mathlib.Core.Bool.{cond}
+use mathlib.Core.List.{List}
+use lib.ListN.{length}
+use lib.Dec.{eqb}
+use Rattle.memory.specs.Access.{byteCount}
+use Rattle.memory.specs.Address.{wrapped}
+use Rattle.memory.specs.Pages.{spot}
+use Rattle.processor.specs.State.{enabled, widthOf}
+use Rattle.processor.specs.declared.state.State.{State}
+use Rattle.switches.specs.Saveprevssp.{carry}
+use Rattle.calls.specs.Call.{pushed}
+use Rattle.replay.specs.Instruction.{instructionAt, isIncssp, isCall, sizeOf}
+use Rattle.replay.specs.Codes.{codes}
+use Rattle.replay.specs.Run.{Run, run, after}
+use Rattle.replay.specs.declared.instruction.Instruction.{Instruction}
+
+-- bytes popped by an instruction that completes from this opening state: Range elements by INCSSP, the token and, where CF is set, the
+-- hole by SAVEPREVSSP
+unfoldable pub popped : Instruction → State → ℕ
+popped i s =
+    cond (isIncssp i) (byteCount (sizeOf i) * (i .b % 256))
+    (cond (eqb (i .code) 4) (cond (carry s) 12 8)
+    0)
+
+-- bytes pushed by it: by CALL, while enabled
+unfoldable pub pushedBy : Instruction → State → ℕ
+pushedBy i s = cond (isCall i) (cond (enabled s) (byteCount (pushed s)) 0) 0
+
+-- the sum over the first k instructions of what each one, with its opening state, counts for
+unfoldable pub sumOf : (Instruction → State → ℕ) → (ℕ → Instruction) → (ℕ → State) → ℕ → ℕ
+sumOf amount listed opening zero = 0
+sumOf amount listed opening (suc k) = sumOf amount listed opening k + amount (listed k) (opening k)
+
+-- For a run without a completed RSTORSSP: first SSP and all bytes popped, last SSP and all bytes pushed, are equal modulo 2^64 in mode 2,
+-- otherwise 2^32. The sums come from the completed instructions and their opening states.
+abbrev pub Ledger : Type 0
+Ledger = (pages : List ℕ) (s : State) (bytes words : List ℕ)
+    → let r : Run = run codes pages s bytes words in
+    let listed : ℕ → Instruction = instructionAt words in
+    let opening : ℕ → State = λ j. after codes (spot pages (length bytes)) listed j s bytes .state in
+    ((j : ℕ) → j < r .count → listed j .code ≡ 3 → ⊥)
+    → wrapped (widthOf s) (s .ssp + sumOf popped listed opening (r .count)) ≡ wrapped (widthOf s) (r .state .ssp + sumOf pushedBy listed opening (r .count))

@@ -1,0 +1,59 @@
+-- Demand 3 for page lists (docs/RULES.md, "Two runs side by side"): more memory never alters an answer already given. Assumes nothing.
+use Prim.Native.Nat.{ℕ, _≤_}
+use mathlib.Core.Path.{_≡_}
+use mathlib.Core.Bool.{Bool, true, false}
+use mathlib.Core.List.{List}
+use lib.ListN.{length}
+use Rattle.memory.specs.Pages.{listing, spot}
+use Rattle.memory.specs.Extends.{HoldsPages, Untouched}
+use Rattle.memory.specs.declared.pages.Listing.the-variants.{Valid}
+use Rattle.processor.specs.Prog.{Step}
+use Rattle.processor.specs.declared.answer.Answer.{Answer}
+use Rattle.processor.specs.declared.answer.Answer.the-variants.{Completed, Refused, Faulted}
+use Rattle.processor.specs.declared.answer.Vector.{Vector}
+use Rattle.processor.specs.declared.answer.Vector.the-variants.{InvalidOpcode, Stack, Protection, Page, Control}
+use Rattle.processor.specs.declared.state.State.{State}
+use Rattle.replay.specs.Instruction.{instructionAt}
+use Rattle.replay.specs.Exec.{InstructionSet}
+use Rattle.replay.specs.Run.{Run, run, after}
+
+abbrev pub isPage : Vector → Bool
+isPage InvalidOpcode = false
+isPage Stack = false
+isPage Protection = false
+isPage Page = true
+isPage Control = false
+
+-- the answer is a page fault
+abbrev pub isPageFault : Answer → Bool
+isPageFault Completed = false
+isPageFault (Refused refusal) = false
+isPageFault (Faulted fault) = isPage (fault .vector)
+
+-- Registers and old bytes are the same, and the added pages hold what was lent, `lent₂`: the papers' terms, by address (`HoldsPages`
+-- matches pages by their entries, wherever they stand).
+pub record SameMemory (pages₁ pages₂ lent₂ : List ℕ) (state₁ : State) (bytes₁ : List ℕ) (state₂ : State) (bytes₂ : List ℕ) : Type 0 where
+  pub registers : state₂ ≡ state₁
+  pub old : HoldsPages pages₁ bytes₁ pages₂ bytes₂
+  pub added : Untouched pages₁ pages₂ bytes₂ lent₂
+
+-- the second run ends alike
+pub record EndsAlike (pages₁ pages₂ lent₂ : List ℕ) (r₁ r₂ : Run) : Type 0 where
+  pub count : r₂ .count ≡ r₁ .count
+  pub answer : r₂ .answer ≡ r₁ .answer
+  pub memory : SameMemory pages₁ pages₂ lent₂ (r₁ .state) (r₁ .bytes) (r₂ .state) (r₂ .bytes)
+
+-- the second completes at least as many, and after that many it has the same; `then₂` is the second after the first's count
+pub record GoesAsFar (pages₁ pages₂ lent₂ : List ℕ) (r₁ r₂ : Run) (then₂ : Step) : Type 0 where
+  pub count : r₁ .count ≤ r₂ .count
+  pub memory : SameMemory pages₁ pages₂ lent₂ (r₁ .state) (r₁ .bytes) (then₂ .state) (then₂ .bytes)
+
+-- Any instruction set, any state, any words; two valid page lists, the second holding every page of the first. What the first run has
+-- handed back is what stood after its count of single operations (`CountTied`).
+abbrev pub MorePages : Type 0
+MorePages = (set : InstructionSet) (s : State) (words pages₁ bytes₁ pages₂ bytes₂ : List ℕ)
+    → listing pages₁ (length bytes₁) ≡ Valid → listing pages₂ (length bytes₂) ≡ Valid → HoldsPages pages₁ bytes₁ pages₂ bytes₂
+    → let r₁ : Run = run set pages₁ s bytes₁ words in
+    let r₂ : Run = run set pages₂ s bytes₂ words in
+    (isPageFault (r₁ .answer) ≡ false → EndsAlike pages₁ pages₂ bytes₂ r₁ r₂)
+    × (isPageFault (r₁ .answer) ≡ true → GoesAsFar pages₁ pages₂ bytes₂ r₁ r₂ (after set (spot pages₂ (length bytes₂)) (instructionAt words) (r₁ .count) s bytes₂))

@@ -1,0 +1,68 @@
+-- Demand 3 for the permission bits (docs/RULES.md, "Two runs side by side"): more rights never alter an answer already given. Assumes nothing.
+use Prim.Native.Nat.{ℕ, _+_, _≤_}
+use mathlib.Core.Path.{_≡_}
+use mathlib.Core.Bool.{Bool, true, false, not, cond, _&&_}
+use mathlib.Core.List.{List}
+use lib.ListN.{length}
+use Rattle.memory.specs.Pages.{spot}
+use Rattle.processor.specs.Prog.{Step}
+use Rattle.processor.specs.State.{usable, permitted}
+use Rattle.processor.specs.declared.answer.Answer.{Answer}
+use Rattle.processor.specs.declared.answer.Answer.the-variants.{Completed, Refused, Faulted}
+use Rattle.processor.specs.declared.answer.Vector.{Vector}
+use Rattle.processor.specs.declared.answer.Vector.the-variants.{InvalidOpcode, Stack, Protection, Page, Control}
+use Rattle.processor.specs.declared.state.State.{State}
+use Rattle.replay.specs.Instruction.{instructionAt, isWrss}
+use Rattle.replay.specs.Permission.{withoutWrite, withCet}
+use Rattle.replay.specs.Exec.{InstructionSet}
+use Rattle.replay.specs.Run.{Run, run, after}
+use Rattle.replay.specs.declared.instruction.Instruction.{Instruction}
+
+-- a CET register with bit 1 set where this is asked
+abbrev pub switchedOn : Bool → ℕ → ℕ
+switchedOn true register = withoutWrite register + 2
+switchedOn false register = register
+
+-- the state with the permission bit of U_CET, of S_CET or of both switched on
+unfoldable pub granted : Bool → Bool → State → State
+granted user supervisor s = withCet s (switchedOn user (s .ucet)) (switchedOn supervisor (s .scet))
+
+abbrev pub isInvalidOpcode : Vector → Bool
+isInvalidOpcode InvalidOpcode = true
+isInvalidOpcode Stack = false
+isInvalidOpcode Protection = false
+isInvalidOpcode Page = false
+isInvalidOpcode Control = false
+
+-- the answer is #UD
+abbrev pub isUd : Answer → Bool
+isUd Completed = false
+isUd (Refused refusal) = false
+isUd (Faulted fault) = isInvalidOpcode (fault .vector)
+
+-- A WRSS was not permitted (the papers' term): outside mode 0 and while enabled, code 5 or 6 gave #UD, and WR_SHSTK_EN of this CPL is
+-- clear. `i` is the instruction that the run ended at; the run's state is the one from before it.
+unfoldable pub notPermitted : Run → Instruction → Bool
+notPermitted r i = isUd (r .answer) && (isWrss i && (usable (r .state) && not (permitted (r .state))))
+
+-- the second run is the first but for those bits
+pub record AlikeButBits (user supervisor : Bool) (r₁ r₂ : Run) : Type 0 where
+  pub count : r₂ .count ≡ r₁ .count
+  pub answer : r₂ .answer ≡ r₁ .answer
+  pub bytes : r₂ .bytes ≡ r₁ .bytes
+  pub registers : r₂ .state ≡ granted user supervisor (r₁ .state)
+
+-- the second completes at least as many, and all before that WRSS is alike but for those bits
+pub record AlikeBefore (user supervisor : Bool) (r₁ r₂ : Run) (then₂ : Step) : Type 0 where
+  pub count : r₁ .count ≤ r₂ .count
+  pub bytes : then₂ .bytes ≡ r₁ .bytes
+  pub registers : then₂ .state ≡ granted user supervisor (r₁ .state)
+
+-- Any instruction set, any state, any words, any page list and bytes, valid or not.
+abbrev pub MoreRights : Type 0
+MoreRights = (set : InstructionSet) (user supervisor : Bool) (s : State) (words pages bytes : List ℕ)
+    → let r₁ : Run = run set pages s bytes words in
+    let r₂ : Run = run set pages (granted user supervisor s) bytes words in
+    (notPermitted r₁ (instructionAt words (r₁ .count)) ≡ false → AlikeButBits user supervisor r₁ r₂)
+    × (notPermitted r₁ (instructionAt words (r₁ .count)) ≡ true
+    → AlikeBefore user supervisor r₁ r₂ (after set (spot pages (length bytes)) (instructionAt words) (r₁ .count) (granted user supervisor s) bytes))

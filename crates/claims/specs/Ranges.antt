@@ -1,0 +1,22 @@
+-- A state in its ranges stays in them. Assumes nothing.
+use Prim.Native.Nat.{ℕ}
+use mathlib.Core.Path.{_≡_}
+use mathlib.Core.Bool.{true}
+use mathlib.Core.List.{List}
+use Rattle.memory.specs.Pages.{Lookup}
+use Rattle.processor.specs.State.{inRange}
+use Rattle.processor.specs.declared.answer.Answer.the-variants.{Completed}
+use Rattle.processor.specs.declared.state.State.{State}
+use Rattle.replay.specs.Codes.{codes}
+use Rattle.replay.specs.Exec.{perform}
+use Rattle.replay.specs.Run.{run}
+use Rattle.replay.specs.declared.instruction.Instruction.{Instruction}
+
+-- over every completed instruction
+abbrev pub StaysInRange : Type 0
+StaysInRange = (look : Lookup) (i : Instruction) (s : State) (bytes : List ℕ)
+    → inRange s ≡ true → perform codes look i s bytes .answer ≡ Completed → inRange (perform codes look i s bytes .state) ≡ true
+
+-- and so over whole runs, however they end
+abbrev pub RunStaysInRange : Type 0
+RunStaysInRange = (pages : List ℕ) (s : State) (bytes words : List ℕ) → inRange s ≡ true → inRange (run codes pages s bytes words .state) ≡ true

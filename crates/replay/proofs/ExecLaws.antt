@@ -1,0 +1,36 @@
+-- One instruction, from the operation that it runs on the state without the permission bits. Assumes nothing.
+use Prim.Native.Nat.{ℕ}
+use mathlib.Core.Bool.{true}
+use mathlib.Core.List.{List}
+use mathlib.Core.Path.{_≡_, refl, ap}
+use Rattle.memory.specs.Pages.{Lookup}
+use Rattle.processor.specs.Outcomes.{stepOf}
+use Rattle.processor.specs.Prog.{Prog, done, _>>=_, Result, ended, broken, interp, Step, settle, operate}
+use Rattle.processor.specs.State.{permitted}
+use Rattle.processor.specs.declared.state.State.{State}
+use Rattle.processor.proofs.Laws.{continues, breaks}
+use Rattle.replay.specs.Permission.{hidden, shown}
+use Rattle.replay.specs.Exec.{InstructionSet, operationOf, exec, unhidden, perform}
+use Rattle.replay.specs.declared.instruction.Instruction.{Instruction}
+
+-- what is handed back, from what the operation handed back
+abbrev pub backFrom : State → Step → Step
+backFrom before now = stepOf (unhidden before (now .state) (now .answer)) (now .bytes)
+
+-- a program whose last state gets the permission bits of another: as the program itself, with the bits put back
+pub put-back : (look : Lookup) (p : Prog State) (s h : State) (bytes : List ℕ) → operate look (p >>= (λ t. done (shown s t))) s bytes ≡ backFrom s (operate look p h bytes)
+unfolding operate interp
+put-back look p s h bytes = go (interp look p bytes) refl
+  where
+    back : State → Prog State
+    back t = done (shown s t)
+
+    go : (r : Result State) → interp look p bytes ≡ r → settle s bytes (interp look (p >>= back) bytes) ≡ backFrom s (settle h bytes r)
+    go (ended t left) e = ap (settle s bytes) (continues look back p bytes t left e)
+    go (broken fault) e = ap (settle s bytes) (breaks look back p bytes fault e)
+
+-- a well-formed instruction
+pub performed : (set : InstructionSet) (look : Lookup) (i : Instruction) (s : State) (bytes : List ℕ) → set .fits i (s .mode) ≡ true
+    → perform set look i s bytes ≡ backFrom s (operate look (operationOf set i (permitted s) (hidden s)) (hidden s) bytes)
+unfolding perform exec
+performed set look i s bytes e = rw e (put-back look (operationOf set i (permitted s) (hidden s)) s (hidden s) bytes)

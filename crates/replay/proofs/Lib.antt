@@ -1,0 +1,4 @@
+-- Laws of one instruction and of a run.
+
+mod ExecLaws
+mod RunLaws

@@ -1,0 +1,45 @@
+-- `run` meets its contract: what is tested before any step, then every instruction. Assumes nothing.
+use mathlib.Core.Path.{sym, _∙_}
+use borrow.Author.Needs.{needs}
+use Rattle.replay.proofs.runs.run.Tie as tie
+use Rattle.replay.specs.Run.{run}
+use Rattle.replay.proofs.runs.run.Statement.{statement}
+
+in-range-requires : tie.Need-in-range-requires
+in-range-requires c κs = search needs
+
+check-requires : tie.Need-check-requires
+check-requires c κs = search needs
+
+enum-known-refusal : tie.Need-enum-known-refusal
+enum-known-refusal c = search needs
+
+enum-told : tie.Need-enum-told
+enum-told c = search needs
+
+walk-requires : tie.Need-walk-requires
+walk-requires c κs = search needs
+
+returns : tie.Need-returns
+unfolding run
+returns c = rw (← c .before .before .before .before .in-range .ensures, sym (c .before .before .before .check .ensures) ∙ c .before .refusal .given .1)
+
+same-length : tie.Need-same-length
+same-length c = search needs
+
+returns-2 : tie.Need-returns-2
+unfolding run
+returns-2 c = rw (← c .before .before .before .before .before .before .before .in-range .ensures, sym (c .before .before .before .before .before .before .check .ensures) ∙ c .before .before .before .before .enum-told .given .1) (c .before .before .walk .ensures)
+
+pub run-spec : {M : Type 1} → statement M
+run-spec =
+    tie.close
+    (tie.spec
+    in-range-requires
+    check-requires
+    enum-known-refusal
+    enum-told
+    walk-requires
+    returns
+    same-length
+    returns-2)

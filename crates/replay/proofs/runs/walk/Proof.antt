@@ -1,0 +1,87 @@
+-- `walk` meets its contract. The invariant: the whole run is the run from here on, and no byte is added or lost. Assumes nothing.
+use Prim.Native.Nat.{ℕ, _-_, _/_}
+use mathlib.Core.Path.{_≡_, refl, sym, _∙_}
+use native.Mathlib.Omega.{arith}
+use lib.ListN.{length}
+use borrow.Author.Needs.{needs}
+use Rattle.replay.proofs.runs.walk.Tie as tie
+use Rattle.processor.specs.Outcomes.{stepOf}
+use Rattle.replay.specs.Run.{runFrom}
+use Rattle.replay.specs.Codes.{codes}
+use Rattle.replay.specs.Instruction.{instructionAt}
+use Rattle.memory.specs.Pages.{spot}
+use Rattle.replay.proofs.RunLaws.{goes-on, ends-refused, ends-faulted, at-end}
+use Rattle.replay.proofs.runs.walk.Statement.{statement}
+
+abbrev Inv-loop : tie.InvT-loop
+Inv-loop pages bytes₀ words listed state₀ k₀ bytes state k = (runFrom codes (spot pages (length bytes₀)) (instructionAt words) 0 listed state₀ bytes₀ ≡ runFrom codes (spot pages (length bytes₀)) (instructionAt words) k (listed - k) state bytes) × (length bytes ≡ length bytes₀)
+
+abbrev μ-loop : tie.MeasureT-loop
+μ-loop pages bytes₀ words listed state₀ k₀ bytes state k = listed - k
+
+loop-holds : tie.Need-loop-holds Inv-loop μ-loop
+loop-holds c = let whole : (n : ℕ) → n - 0 ≡ n = λ n. omega arith in (rw (whole (length (c .before .before .before .args .words .now) / 4)), refl)
+
+nth-requires : tie.Need-nth-requires Inv-loop μ-loop
+nth-requires c κs = let h = c .loop-test .taken in omega arith
+
+perform-requires : tie.Need-perform-requires Inv-loop μ-loop
+perform-requires c κs = search needs
+
+enum-told : tie.Need-enum-told Inv-loop μ-loop
+enum-told c = search needs
+
+add-k : tie.Need-add-k Inv-loop μ-loop
+add-k c = let h = c .before .before .before .before .before .before .before .before .loop-test .taken in omega arith
+
+loop-less : tie.Need-loop-less Inv-loop μ-loop
+loop-less c = let h = c .before .before .before .before .before .before .before .before .loop-test .taken in omega arith
+
+loop-again : tie.Need-loop-again Inv-loop μ-loop
+loop-again c = let inv = c .before .before .before .before .before .before .before .before .before .loop .inv in (inv .0 ∙ goes-on _ _ _ _ _ _ _ (c .before .before .before .before .before .before .before .before .loop-test .taken) (stepOf (c .before .before .before .before .before .perform .result) (c .before .before .before .before .before .perform .last .1 .1 .1 .0)) (rw (← inv .1, ← c .before .before .before .before .before .before .before .nth .ensures) (sym (c .before .before .before .before .before .perform .ensures))) (c .enum-told .given .1), c .before .before .before .before .bytes .given ∙ inv .1)
+
+enum-known-answer : tie.Need-enum-known-answer Inv-loop μ-loop
+enum-known-answer c = search needs
+
+same-length : tie.Need-same-length Inv-loop μ-loop
+same-length c = c .before .before .before .before .before .bytes .given ∙ c .before .before .before .before .before .before .before .before .before .before .loop .inv .1
+
+returns : tie.Need-returns Inv-loop μ-loop
+returns c = let inv = c .before .before .before .before .before .before .before .before .before .before .loop .inv in rw (← c .before .answer .given .1) (sym (inv .0 ∙ ends-refused _ _ _ _ _ _ _ (c .before .before .before .before .before .before .before .before .before .loop-test .taken) (stepOf (c .before .before .before .before .before .before .perform .result) (c .before .before .before .before .before .before .perform .last .1 .1 .1 .0)) (rw (← inv .1, ← c .before .before .before .before .before .before .before .before .nth .ensures) (sym (c .before .before .before .before .before .before .perform .ensures))) _ (c .before .answer .given .1)))
+
+enum-known-answer-2 : tie.Need-enum-known-answer-2 Inv-loop μ-loop
+enum-known-answer-2 c = search needs
+
+same-length-2 : tie.Need-same-length-2 Inv-loop μ-loop
+same-length-2 c = c .before .before .before .before .before .bytes .given ∙ c .before .before .before .before .before .before .before .before .before .before .loop .inv .1
+
+returns-2 : tie.Need-returns-2 Inv-loop μ-loop
+returns-2 c = let inv = c .before .before .before .before .before .before .before .before .before .before .loop .inv in rw (← c .before .answer2 .given .1) (sym (inv .0 ∙ ends-faulted _ _ _ _ _ _ _ (c .before .before .before .before .before .before .before .before .before .loop-test .taken) (stepOf (c .before .before .before .before .before .before .perform .result) (c .before .before .before .before .before .before .perform .last .1 .1 .1 .0)) (rw (← inv .1, ← c .before .before .before .before .before .before .before .before .nth .ensures) (sym (c .before .before .before .before .before .before .perform .ensures))) _ (c .before .answer2 .given .1)))
+
+same-length-3 : tie.Need-same-length-3 Inv-loop μ-loop
+same-length-3 c = c .before .loop .inv .1
+
+returns-3 : tie.Need-returns-3 Inv-loop μ-loop
+returns-3 c = sym (c .before .loop .inv .0 ∙ at-end _ _ _ _ _ _ _ (omega arith))
+
+pub walk-spec : {M : Type 1} → statement M
+walk-spec =
+    tie.close
+    (tie.spec
+    Inv-loop
+    μ-loop
+    loop-holds
+    nth-requires
+    perform-requires
+    enum-told
+    add-k
+    loop-less
+    loop-again
+    enum-known-answer
+    same-length
+    returns
+    enum-known-answer-2
+    same-length-2
+    returns-2
+    same-length-3
+    returns-3)

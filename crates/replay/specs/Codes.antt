@@ -1,0 +1,30 @@
+-- The instruction set that is built: codes 1 to 8 (docs/RULES.md, "Instructions"). Assumes nothing.
+use Prim.Native.Nat.{ℕ}
+use mathlib.Core.Bool.{cond}
+use lib.Dec.{eqb}
+use Rattle.processor.specs.Answer.{ud}
+use Rattle.processor.specs.Prog.{Prog, stop}
+use Rattle.processor.specs.declared.state.State.{State}
+use Rattle.shadow.specs.Incssp.{incssp}
+use Rattle.switches.specs.Rstorssp.{rstorssp}
+use Rattle.switches.specs.Saveprevssp.{saveprevssp}
+use Rattle.calls.specs.Call.{relative, call}
+use Rattle.replay.specs.Instruction.{isIncssp, isCall, sizeOf, wellFormed}
+use Rattle.replay.specs.Exec.{InstructionSet}
+use Rattle.replay.specs.declared.instruction.Instruction.{Instruction}
+
+-- the target of code 7 is relative to Next, that of code 8 is A
+unfoldable pub target : Instruction → State → ℕ
+target i s = cond (eqb (i .code) 7) (relative s (i .a) (i .length)) (i .a)
+
+-- by its code; codes 5 and 6 are WRSS (`operationOf`), and an unknown one has been refused before
+unfoldable pub operation : Instruction → State → Prog State
+operation i s =
+    cond (isIncssp i) (incssp (sizeOf i) (i .b) (i .length) s)
+    (cond (eqb (i .code) 3) (rstorssp (i .a) (i .length) s)
+    (cond (eqb (i .code) 4) (saveprevssp (i .length) s)
+    (cond (isCall i) (call (target i s) (i .length) s)
+    (stop ud))))
+
+abbrev pub codes : InstructionSet
+codes = record { fits = wellFormed; operation = operation }

@@ -1,0 +1,61 @@
+-- An instruction: four words of the list, and the form that it must have (docs/RULES.md, "Instructions", refusal 6). Assumes nothing.
+use Prim.Native.Nat.{ℕ, _+_, _*_, _^_}
+use mathlib.Core.Bool.{Bool, true, false, not, cond, _&&_, _||_}
+use mathlib.Core.List.{List}
+use lib.ListN.{getD}
+use lib.Dec.{eqb, ltb, leb}
+use Rattle.memory.specs.declared.access.Size.{Size}
+use Rattle.memory.specs.declared.access.Size.the-variants.{Four, Eight}
+use Rattle.replay.specs.declared.instruction.Instruction.{Instruction}
+
+-- the k-th instruction of a list of words, counted from 0
+unfoldable pub instructionAt : List ℕ → ℕ → Instruction
+instructionAt words k = record { code = getD words (4 * k) 0; length = getD words (4 * k + 1) 0; a = getD words (4 * k + 2) 0; b = getD words (4 * k + 3) 0 }
+
+-- ---- which operation a code names
+
+-- INCSSPD, INCSSPQ
+unfoldable pub isIncssp : Instruction → Bool
+isIncssp i = eqb (i .code) 1 || eqb (i .code) 2
+
+-- WRSSD, WRSSQ
+unfoldable pub isWrss : Instruction → Bool
+isWrss i = eqb (i .code) 5 || eqb (i .code) 6
+
+-- CALL, relative and absolute
+unfoldable pub isCall : Instruction → Bool
+isCall i = eqb (i .code) 7 || eqb (i .code) 8
+
+-- INCSSPQ and WRSSQ work on 8 bytes, INCSSPD and WRSSD on 4
+unfoldable pub isQuad : Instruction → Bool
+isQuad i = eqb (i .code) 2 || eqb (i .code) 6
+
+abbrev pub sizeOf : Instruction → Size
+sizeOf i = cond (isQuad i) Eight Four
+
+-- ---- refusal 6
+
+unfoldable pub lengthFits : Instruction → Bool
+lengthFits i = leb 1 (i .length) && leb (i .length) 15
+
+-- the code is known, the words that it does not use are 0, and a displacement has 32 bits
+unfoldable pub wordsFit : Instruction → Bool
+wordsFit i =
+    cond (isIncssp i) (eqb (i .a) 0)
+    (cond (eqb (i .code) 3) (eqb (i .b) 0)
+    (cond (eqb (i .code) 4) (eqb (i .a) 0 && eqb (i .b) 0)
+    (cond (isWrss i) true
+    (cond (eqb (i .code) 7) (ltb (i .a) (2 ^ 32) && eqb (i .b) 0)
+    (cond (eqb (i .code) 8) (eqb (i .b) 0)
+    false)))))
+
+-- mode 1 has no form of 8 bytes, and no word of more than 32 bits
+unfoldable pub narrow : Instruction → Bool
+narrow i = not (isQuad i) && (ltb (i .a) (2 ^ 32) && ltb (i .b) (2 ^ 32))
+
+-- mode 0 has no call
+unfoldable pub modeFits : Instruction → ℕ → Bool
+modeFits i mode = cond (eqb mode 0) (not (isCall i)) (cond (eqb mode 1) (narrow i) true)
+
+unfoldable pub wellFormed : Instruction → ℕ → Bool
+wellFormed i mode = wordsFit i && (lengthFits i && modeFits i mode)

@@ -1,0 +1,94 @@
+// A single operation: the form of an instruction, its dispatch, and the permission bits around it.
+ghost use mathlib.Core.Path.{_≡_};
+ghost use lib.ListN.{length as count};
+ghost use Rattle.memory.specs.Pages.{spot};
+ghost use Rattle.processor.specs.Prog.{operate};
+ghost use Rattle.processor.specs.Outcomes.{stepOf};
+ghost use Rattle.replay.specs.Exec.{operationOf, unhidden, perform as performOf};
+ghost use Rattle.replay.specs.Codes.{codes, target as targetOf};
+use crate::instruction::Instruction;
+use crate::permission::hidden;
+use crate::permission::shown;
+use processor::Answer;
+use processor::Outcome;
+use processor::Refusal;
+use processor::State;
+use processor::Vector;
+
+// The target of a call.
+fn target(step: Instruction, state: State) -> u64
+    ensures { λ r. ⌜ r ≡ targetOf step state ⌝ }
+{
+    if step.code == 7 {
+        calls::call::relative(state, step.a, step.length)
+    } else {
+        step.a
+    }
+}
+
+// Runs a well-formed instruction on the state that operations see. Each operation is called from one place, so that it can be inlined.
+fn dispatch(
+    step: Instruction,
+    permitted: bool,
+    state: State,
+    pages: &[u64],
+    bytes: &mut [u8],
+) -> Outcome
+    ensures { λ r. ⌜ stepOf r (now (bytes .exit)) ≡ operate (spot (now (pages .entry)) (count (now (bytes .entry)))) (operationOf codes step permitted state) state (now (bytes .entry)) ⌝ }
+{
+    let length = step.length;
+    let a = step.a;
+    let b = step.b;
+    let size = step.size();
+    if step.is_wrss() {
+        return shadow::wrss::execute(state, permitted, pages, bytes, size, a, b, length);
+    }
+    if step.is_incssp() {
+        return shadow::incssp::execute(state, pages, bytes, size, b, length);
+    }
+    if step.code == 3 {
+        return switches::rstorssp::execute(state, pages, bytes, a, length);
+    }
+    if step.code == 4 {
+        return switches::saveprevssp::execute(state, pages, bytes, length);
+    }
+    if step.is_call() {
+        return calls::call::execute(state, pages, bytes, target(step, state), length);
+    }
+    state.fail(processor::fault(Vector::InvalidOpcode))
+}
+
+// The outcome with the permission bits of the state before it.
+fn unhide(before: State, outcome: Outcome) -> Outcome
+    ensures { λ r. ⌜ r ≡ unhidden before (outcome .state) (outcome .answer) ⌝ }
+{
+    let answer = outcome.answer;
+    match answer {
+        Answer::Completed => Outcome {
+            answer,
+            state: shown(before, outcome.state),
+        },
+        Answer::Refused(refusal) => Outcome {
+            answer,
+            state: before,
+        },
+        Answer::Faulted(fault) => Outcome {
+            answer,
+            state: before,
+        },
+    }
+}
+
+// One instruction on a state and the lent bytes; a malformed one gets refusal 6.
+pub(crate) fn perform(step: Instruction, state: State, pages: &[u64], bytes: &mut [u8]) -> Outcome
+    ensures { λ r. ⌜ stepOf r (now (bytes .exit)) ≡ performOf codes (spot (now (pages .entry)) (count (now (bytes .entry)))) step state (now (bytes .entry)) ⌝ }
+{
+    if !step.well_formed(state.mode) {
+        return Outcome {
+            answer: Answer::Refused(Refusal::Instruction),
+            state,
+        };
+    }
+    let outcome = dispatch(step, state.permitted(), hidden(state), pages, bytes);
+    unhide(state, outcome)
+}
