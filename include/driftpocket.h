@@ -5,7 +5,7 @@
  * how it ended. Link it with target/staticlib/libdriftpocket.a, which `rt staticlib driftpocket` proves and writes.
  *
  * Any numbers may be passed, and any lengths: nothing has to be tested beforehand. What is malformed is refused by a
- * number. The call always comes to an end, keeps nothing between calls, allocates nothing, and does no input or output.
+ * number. The call always comes to an end and keeps nothing between calls.
  * The rules that it follows are in docs/RULES.md.
  */
 #ifndef DRIFTPOCKET_H
