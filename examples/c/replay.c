@@ -89,6 +89,7 @@ static int state_differs(const uint64_t *state) {
 
 /* The two tokens, and then every lent byte. */
 static int bytes_differ(void) {
+    memset(wanted, 0xaa, sizeof wanted);
     put(wanted, 0x2ff0, 0x1ff3);
     put(wanted, 0x1fe8, 0x1ff1);
     int wrong = differs("8 bytes at 2ff0", get(bytes, 0x2ff0), 0x1ff3) + differs("8 bytes at 1fe8", get(bytes, 0x1fe8), 0x1ff1);
@@ -103,6 +104,7 @@ int main(void) {
     uint64_t state[DRIFTPOCKET_STATE_WORDS];
     uint64_t report[DRIFTPOCKET_REPORT_WORDS + SPARE] = {[DRIFTPOCKET_REPORT_WORDS] = 0x77};
     memcpy(state, before, sizeof state);
+    memset(bytes, 0xaa, sizeof bytes); /* so that a byte wrongly cleared shows */
     put(bytes, 0x2ff0, 0x2ff9);
 
     puts("RSTORSSP 0x2ff0, then SAVEPREVSSP, from SSP 0x1ff0 with the token 0x2ff9 at 0x2ff0");
