@@ -129,8 +129,17 @@ fn moves(step: &Step) -> Vec<String> {
     always
         .into_iter()
         .chain(changed)
-        .map(|(name, old, new)| format!("   {name} {old:#x} -> {new:#x}"))
+        .map(|(name, old, new)| format!("   {name} {}", change(old, new)))
         .collect()
+}
+
+/// A register before and after.
+fn change(old: u64, new: u64) -> String {
+    if old == new {
+        format!("{old:#x} stays")
+    } else {
+        format!("{old:#x} -> {new:#x}")
+    }
 }
 
 /// How the run ended.
@@ -229,6 +238,12 @@ P4. RSTORSSP switches to the stack whose token fits.
             "completed 0 of 2; the run is sent back before any step, \
              refusal 5: a field of the state is out of its range\n"
         ));
+    }
+
+    #[test]
+    fn a_pointer_that_stays_is_said_to() {
+        let write = text(&worked_run(10));
+        assert!(write.contains("     SSP 0x1ff0 stays\n     IP 0x400000 -> 0x400006\n"));
     }
 
     #[test]
