@@ -1,7 +1,8 @@
 //! Finds the proved static library and links it.
 //!
 //! It is looked for in `target/staticlib` at the root of the repository, or in
-//! the directory that the variable `DRIFTPOCKET_LIB_DIR` names.
+//! the directory that the variable `DRIFTPOCKET_LIB_DIR` names: a full path, or
+//! one that starts from this crate's own directory.
 
 use std::env;
 use std::path::{Path, PathBuf};
@@ -28,10 +29,8 @@ fn main() {
 
 /// Where the library is looked for.
 fn directory() -> PathBuf {
-    match env::var_os(VARIABLE) {
-        Some(directory) => PathBuf::from(directory),
-        None => manifest_directory().join("../../target/staticlib"),
-    }
+    let named = env::var_os(VARIABLE).unwrap_or_else(|| "../../target/staticlib".into());
+    manifest_directory().join(named)
 }
 
 /// Where this crate's `Cargo.toml` is.
