@@ -105,9 +105,9 @@ fn refusals_come_in_their_order() {
     input.is_refused(5);
     input.pages[1] = 0x1002;
     input.is_refused(4);
-    input.pages[0] = 0x8000_0000_0000 + 1;
+    input.pages = [1, 2].map(|kind| 0x8000_0000_0000 + kind).to_vec();
     input.is_refused(3);
-    input.pages[1] = 0x1004;
+    input.pages[1] += 2;
     input.is_refused(2);
     input.bytes.pop();
     input.is_refused(1);
