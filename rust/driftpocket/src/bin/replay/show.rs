@@ -1,0 +1,269 @@
+//! The text for a person: a run, its steps, and how it ended.
+
+use crate::input::Run;
+use crate::steps::{Replay, Step};
+use driftpocket::{Answer, Fault, PageList, Refusal, Size, State};
+use std::fmt::Write;
+
+/// How many numbers are shown of one page at most.
+const MOST_NUMBERS: usize = 16;
+
+/// How a page is divided to be shown.
+const NUMBERS_OF_A_PAGE: u64 = 512;
+
+/// A run with its replay.
+pub fn run(run: &Run, replay: &Replay) -> String {
+    let mut lines = vec![run.title.clone()];
+    lines.extend(start(&run.state).map(indented));
+    lines.extend(pages(&run.pages).into_iter().map(indented));
+    for one in &replay.steps {
+        lines.push(String::new());
+        lines.extend(step(one).into_iter().map(indented));
+    }
+    lines.push(String::new());
+    lines.extend(end(run, replay).into_iter().map(indented));
+    lines.into_iter().map(|line| line + "\n").collect()
+}
+
+/// The last line, about all runs.
+pub fn summary(runs: usize, agreed: usize) -> String {
+    format!("{runs} runs replayed; {agreed} of them agree with the run as a whole\n")
+}
+
+/// A line below a title.
+fn indented(line: String) -> String {
+    format!("  {line}")
+}
+
+/// The state at the start.
+fn start(state: &State) -> [String; 2] {
+    let State {
+        mode,
+        cpl,
+        cet,
+        ucet,
+        scet,
+        limit,
+        ..
+    } = state;
+    let name = match mode {
+        0 => "real or virtual-8086",
+        1 => "32-bit protected or compatibility",
+        2 => "64-bit",
+        _ => "none",
+    };
+    [
+        format!(
+            "mode {mode} ({name}), CPL {cpl}, CR4.CET {cet}, U_CET {ucet:#x}, S_CET {scet:#x}, code limit {limit:#x}"
+        ),
+        format!("starts with {}", registers(state)),
+    ]
+}
+
+/// The registers that instructions change.
+fn registers(state: &State) -> String {
+    let State {
+        ip, sp, ssp, flags, ..
+    } = state;
+    let carry = u8::from(state.carry());
+    format!("SSP {ssp:#x}, IP {ip:#x}, SP {sp:#x}, RFLAGS {flags:#x} (CF {carry})")
+}
+
+/// The pages, each with the numbers on it that are not zero.
+fn pages(pages: &PageList) -> Vec<String> {
+    let mut lines = Vec::new();
+    for (address, kind) in pages.pages() {
+        lines.push(match kind {
+            Ok(kind) => format!("page {address:#x}, {kind}"),
+            Err(number) => format!("page {address:#x}, kind {number}"),
+        });
+        let mut numbers = numbers(pages, address);
+        let hidden = numbers.len().saturating_sub(MOST_NUMBERS);
+        numbers.truncate(MOST_NUMBERS);
+        lines.extend(numbers);
+        if hidden > 0 {
+            lines.push(format!("     and {hidden} more numbers that are not zero"));
+        }
+    }
+    lines
+}
+
+/// The numbers of a page, 8 bytes each, that are not zero.
+fn numbers(pages: &PageList, page: u64) -> Vec<String> {
+    (0..NUMBERS_OF_A_PAGE)
+        .map(|place| page | (place * Size::Eight.bytes()))
+        .filter_map(|address| Some((address, pages.read(address, Size::Eight)?)))
+        .filter(|&(_, value)| value != 0)
+        .map(|(address, value)| format!("     {address:#x} holds {value:#x}"))
+        .collect()
+}
+
+/// One instruction.
+fn step(step: &Step) -> Vec<String> {
+    let length = step.instruction.length;
+    let mut lines = vec![format!(
+        "{}. {} ({length} bytes)",
+        step.number, step.instruction
+    )];
+    if step.answer.is_completed() {
+        lines.extend(moves(step));
+        lines.extend(step.accesses.iter().map(|access| format!("   {access}")));
+    } else {
+        let State { ssp, ip, .. } = step.before;
+        lines.push(format!("   SSP {ssp:#x} and IP {ip:#x} stay"));
+        lines.push(format!("   {}", step.answer));
+    }
+    lines
+}
+
+/// The registers before and after an instruction: SSP and IP, and those others
+/// that changed.
+fn moves(step: &Step) -> Vec<String> {
+    let (before, after) = (&step.before, &step.after);
+    let always = [("SSP", before.ssp, after.ssp), ("IP", before.ip, after.ip)];
+    let others = [
+        ("SP", before.sp, after.sp),
+        ("RFLAGS", before.flags, after.flags),
+    ];
+    let changed = others.into_iter().filter(|(_, old, new)| old != new);
+    always
+        .into_iter()
+        .chain(changed)
+        .map(|(name, old, new)| format!("   {name} {}", change(old, new)))
+        .collect()
+}
+
+/// A register before and after.
+fn change(old: u64, new: u64) -> String {
+    if old == new {
+        format!("{old:#x} stays")
+    } else {
+        format!("{old:#x} -> {new:#x}")
+    }
+}
+
+/// How the run ended.
+fn end(run: &Run, replay: &Replay) -> Vec<String> {
+    let outcome = replay.outcome;
+    let mut text = format!("completed {} of {}", outcome.count, run.instructions.len());
+    if !outcome.answer.is_completed() {
+        let next = outcome.count + 1;
+        let _ = write!(text, "; {}", stop(next, &outcome.answer));
+    }
+    let mut lines = vec![text, format!("ends with {}", registers(&replay.state))];
+    let doubts = replay.doubts.iter();
+    lines.extend(doubts.map(|doubt| format!("DOES NOT AGREE: {doubt}")));
+    lines
+}
+
+/// Why the run stopped at an instruction, or before the first.
+fn stop(number: usize, answer: &Answer) -> String {
+    match answer {
+        Answer::Completed => String::new(),
+        Answer::Refused(Refusal::Form) => format!("instruction {number} is sent back, {answer}"),
+        Answer::Refused(_) => format!("the run is sent back before any step, {answer}"),
+        Answer::Faulted(fault) => {
+            format!("instruction {number} faults, {fault} ({})", details(fault))
+        }
+        Answer::Unknown(_) => format!("{answer}: the library is of another version"),
+    }
+}
+
+/// All of a fault, in words and numbers.
+fn details(fault: &Fault) -> String {
+    let Fault {
+        vector,
+        error_code,
+        address,
+    } = fault;
+    let (name, number) = (vector.description(), vector.number());
+    format!("{name}: vector {number}, error code {error_code}, address {address:#x}")
+}
+
+#[cfg(test)]
+mod tests {
+    use super::*;
+    use crate::{steps, worked};
+    use driftpocket::{Instruction, Kind};
+
+    /// The text of a run.
+    fn text(one: &Run) -> String {
+        run(one, &steps::replay(one))
+    }
+
+    /// The worked run with this place in the list.
+    fn worked_run(place: usize) -> Run {
+        worked::runs().unwrap().swap_remove(place)
+    }
+
+    #[test]
+    fn a_switch_in_full() {
+        let wanted = "\
+P4. RSTORSSP switches to the stack whose token fits.
+  mode 2 (64-bit), CPL 3, CR4.CET 1, U_CET 0x1, S_CET 0x0, code limit 0xffffffff
+  starts with SSP 0x1ff0, IP 0x400000, SP 0x5010, RFLAGS 0x0 (CF 0)
+  page 0x1000, user shadow
+  page 0x2000, user shadow
+       0x2ff0 holds 0x2ff9
+  page 0x5000, ordinary
+
+  1. RSTORSSP 0x2ff0 (5 bytes)
+     SSP 0x1ff0 -> 0x2ff0
+     IP 0x400000 -> 0x400005
+     load 0x2ff9, 8 bytes, from shadow 0x2ff0
+     store 0x1ff3, 8 bytes, to shadow 0x2ff0
+
+  completed 1 of 1
+  ends with SSP 0x2ff0, IP 0x400005, SP 0x5010, RFLAGS 0x0 (CF 0)
+";
+        assert_eq!(text(&worked_run(4)), wanted);
+    }
+
+    #[test]
+    fn ends_in_words_and_numbers() {
+        let page_fault = text(&worked_run(1));
+        assert!(page_fault.contains(
+            "completed 0 of 1; instruction 1 faults, #PF at 0x3000 \
+             (page fault: vector 14, error code 0, address 0x3000)\n"
+        ));
+        let mut run = worked_run(0);
+        run.instructions.push(Instruction::from_words([9, 1, 0, 0]));
+        assert!(text(&run).contains(
+            "completed 1 of 2; instruction 2 is sent back, \
+             refusal 6: the instruction breaks its form\n"
+        ));
+        run.state.mode = 3;
+        assert!(text(&run).contains("mode 3 (none)"));
+        assert!(text(&run).contains(
+            "completed 0 of 2; the run is sent back before any step, \
+             refusal 5: a field of the state is out of its range\n"
+        ));
+    }
+
+    #[test]
+    fn a_pointer_that_stays_is_said_to() {
+        let write = text(&worked_run(10));
+        assert!(write.contains("     SSP 0x1ff0 stays\n     IP 0x400000 -> 0x400006\n"));
+    }
+
+    #[test]
+    fn a_full_page_is_cut_short() {
+        let mut full = PageList::new();
+        full.push_bytes(0x1000, Kind::Ordinary, &[1; 4096]).unwrap();
+        let lines = pages(&full);
+        assert_eq!(lines.len(), MOST_NUMBERS + 2);
+        assert_eq!(lines[1], "     0x1000 holds 0x101010101010101");
+        assert_eq!(
+            lines.last().unwrap(),
+            "     and 496 more numbers that are not zero"
+        );
+    }
+
+    #[test]
+    fn pages_that_are_none_are_shown_too() {
+        let odd = PageList::from_parts(vec![0x1009, u64::MAX], vec![1; 3]);
+        let lines = pages(&odd);
+        let wanted = ["page 0x1000, kind 9", "page 0xfffffffffffff000, kind 4095"];
+        assert_eq!(lines, wanted);
+    }
+}

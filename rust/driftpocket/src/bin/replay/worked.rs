@@ -1,0 +1,314 @@
+//! The worked cases of the rules, P1 to P13, as runs.
+//!
+//! Where the rules leave a number open, it is chosen so that more can be seen:
+//! code runs at 400000, and bytes that are to become zero are not zero before.
+
+use crate::input::Run;
+use driftpocket::{Instruction, Kind, PageError, PageList, Size, State};
+
+/// A number that stands in memory at the start: address, size, value.
+type Number = (u64, Size, u64);
+
+/// A token at 2FF0 that fits its place.
+const GOOD_TOKEN: Number = (0x2ff0, Size::Eight, 0x2ff9);
+
+/// All worked cases, in their order.
+pub fn runs() -> Result<Vec<Run>, PageError> {
+    [increments(), switches(), writes(), calls(), narrow()]
+        .into_iter()
+        .flatten()
+        .map(Case::run)
+        .collect()
+}
+
+/// A worked case.
+struct Case {
+    title: &'static str,
+    state: State,
+    numbers: Vec<Number>,
+    instructions: Vec<Instruction>,
+}
+
+impl Case {
+    /// The case as a run on the pages of all cases.
+    fn run(self) -> Result<Run, PageError> {
+        let mut pages = PageList::new();
+        pages.push(0x1000, Kind::UserShadow)?;
+        pages.push(0x2000, Kind::UserShadow)?;
+        pages.push(0x5000, Kind::Ordinary)?;
+        for (address, size, value) in self.numbers {
+            pages.write(address, size, value)?;
+        }
+        Ok(Run {
+            title: self.title.to_string(),
+            state: self.state,
+            pages,
+            instructions: self.instructions,
+        })
+    }
+}
+
+/// A case from its parts.
+fn case(
+    title: &'static str,
+    state: State,
+    numbers: &[Number],
+    instructions: &[Instruction],
+) -> Case {
+    Case {
+        title,
+        state,
+        numbers: numbers.to_vec(),
+        instructions: instructions.to_vec(),
+    }
+}
+
+/// User code in 64-bit mode, shadow stacks enabled.
+fn user(ssp: u64) -> State {
+    State {
+        mode: 2,
+        cpl: 3,
+        cet: 1,
+        ucet: 1,
+        ip: 0x40_0000,
+        sp: 0x5010,
+        ssp,
+        limit: 0xffff_ffff,
+        ..State::default()
+    }
+}
+
+/// P1 to P3.
+fn increments() -> Vec<Case> {
+    let drop = |count| [Instruction::incsspq(5, count)];
+    vec![
+        case(
+            "P1. INCSSPQ uses the low 8 bits of its count: 0x103 drops 3 elements.",
+            user(0x1fe0),
+            &[],
+            &drop(0x103),
+        ),
+        case(
+            "P2. INCSSPQ loads at SSP even when it drops nothing: #PF at 0x3000.",
+            user(0x3000),
+            &[],
+            &drop(0),
+        ),
+        case(
+            "P3, first part. INCSSPQ drops the last 2 elements: SSP may end off the pages.",
+            user(0x2ff0),
+            &[],
+            &drop(2),
+        ),
+        case(
+            "P3, second part. INCSSPQ would drop 4, and the fourth is not there: #PF at 0x3008.",
+            user(0x2ff0),
+            &[],
+            &drop(4),
+        ),
+    ]
+}
+
+/// P4 to P8.
+fn switches() -> Vec<Case> {
+    let there = Instruction::rstorssp(5, 0x2ff0);
+    let save = Instruction::saveprevssp(4);
+    let back = Instruction::rstorssp(5, 0x1fe8);
+    let hole = (0x1ff0, Size::Four, 0x1122_3344);
+    vec![
+        case(
+            "P4. RSTORSSP switches to the stack whose token fits.",
+            user(0x1ff0),
+            &[GOOD_TOKEN],
+            &[there],
+        ),
+        case(
+            "P5. SAVEPREVSSP after it leaves a token on the stack before.",
+            user(0x1ff0),
+            &[GOOD_TOKEN],
+            &[there, save],
+        ),
+        case(
+            "P6. The same from SSP 0x1ff4 leaves a hole. Going back sets CF, and SAVEPREVSSP then gives #GP(0).",
+            user(0x1ff4),
+            &[GOOD_TOKEN, hole],
+            &[there, save, back, save],
+        ),
+        case(
+            "P7. RSTORSSP meets a token with wrong low bits: #CP, and the token stays.",
+            user(0x1ff0),
+            &[(0x2ff0, Size::Eight, 0x2ffb)],
+            &[there],
+        ),
+        case(
+            "P8. RSTORSSP at an address that is no multiple of 8: #GP(0).",
+            user(0x1ff0),
+            &[GOOD_TOKEN],
+            &[Instruction::rstorssp(5, 0x2ff4)],
+        ),
+    ]
+}
+
+/// P9.
+fn writes() -> Vec<Case> {
+    let permitted = State {
+        ucet: 3,
+        ..user(0x1ff0)
+    };
+    let four = |address| Instruction::wrssd(6, address, 0x1234_5678);
+    vec![
+        case(
+            "P9, first part. WRSSD is not permitted: #UD.",
+            user(0x1ff0),
+            &[],
+            &[four(0x2ff4)],
+        ),
+        case(
+            "P9, second part. With U_CET 3 it writes. WRSSQ needs a multiple of 8: #GP(0).",
+            permitted,
+            &[],
+            &[four(0x2ff4), Instruction::wrssq(7, 0x2ff4, 0x1234_5678)],
+        ),
+        case(
+            "P9, third part. WRSSD does not reach ordinary memory: #PF at 0x5000.",
+            permitted,
+            &[],
+            &[four(0x5000)],
+        ),
+    ]
+}
+
+/// P10 to P12.
+fn calls() -> Vec<Case> {
+    let near = Instruction::call_relative(5, 0x10);
+    vec![
+        case(
+            "P10. CALL pushes its return address on both stacks.",
+            user(0x1ff0),
+            &[],
+            &[near],
+        ),
+        case(
+            "P11. CALL to a target that is not canonical: #GP(0).",
+            user(0x1ff0),
+            &[],
+            &[Instruction::call_absolute(2, 0x8000_0000_0000)],
+        ),
+        case(
+            "P12. CALL whose shadow push leaves the pages: #PF at 0xffc, and no ordinary push either.",
+            user(0x1004),
+            &[(0x5008, Size::Eight, 0x5555_6666)],
+            &[near],
+        ),
+    ]
+}
+
+/// P13.
+fn narrow() -> Vec<Case> {
+    let state = State {
+        mode: 1,
+        flags: 1,
+        ..user(0x2fe0)
+    };
+    vec![case(
+        "P13. SAVEPREVSSP in mode 1 with CF set pops the hole above the token too.",
+        state,
+        &[
+            (0x2fe0, Size::Eight, 0x1ff2),
+            (0x1fe8, Size::Eight, 0x1122_3344_5566_7788),
+        ],
+        &[Instruction::saveprevssp(4)],
+    )]
+}
+
+#[cfg(test)]
+mod tests {
+    use super::*;
+    use driftpocket::run;
+
+    /// What the rules say of each run: its outcome, and SSP, IP and RFLAGS
+    /// after it.
+    const ENDS: [(&str, u64, u64, u64); 16] = [
+        ("1 completed", 0x1ff8, 0x40_0005, 0),
+        ("0 completed, then #PF at 0x3000", 0x3000, 0x40_0000, 0),
+        ("1 completed", 0x3000, 0x40_0005, 0),
+        ("0 completed, then #PF at 0x3008", 0x2ff0, 0x40_0000, 0),
+        ("1 completed", 0x2ff0, 0x40_0005, 0),
+        ("2 completed", 0x2ff8, 0x40_0009, 0),
+        ("3 completed, then #GP(0)", 0x1fe8, 0x40_000e, 1),
+        (
+            "0 completed, then #CP(RSTORSSP), error code 4",
+            0x1ff0,
+            0x40_0000,
+            0,
+        ),
+        ("0 completed, then #GP(0)", 0x1ff0, 0x40_0000, 0),
+        ("0 completed, then #UD", 0x1ff0, 0x40_0000, 0),
+        ("1 completed, then #GP(0)", 0x1ff0, 0x40_0006, 0),
+        ("0 completed, then #PF at 0x5000", 0x1ff0, 0x40_0000, 0),
+        ("1 completed", 0x1fe8, 0x40_0015, 0),
+        ("0 completed, then #GP(0)", 0x1ff0, 0x40_0000, 0),
+        ("0 completed, then #PF at 0xffc", 0x1004, 0x40_0000, 0),
+        ("1 completed", 0x2fec, 0x40_0004, 1),
+    ];
+
+    /// The numbers in memory after the runs that store: the case, then address,
+    /// size, value.
+    const STORED: [(usize, u64, Size, u64); 12] = [
+        (4, 0x2ff0, Size::Eight, 0x1ff3),
+        (5, 0x2ff0, Size::Eight, 0x1ff3),
+        (5, 0x1fe8, Size::Eight, 0x1ff1),
+        (6, 0x1ff0, Size::Four, 0),
+        (6, 0x1fe8, Size::Eight, 0x2ffb),
+        (6, 0x2ff0, Size::Eight, 0x1ff7),
+        (7, 0x2ff0, Size::Eight, 0x2ffb),
+        (10, 0x2ff4, Size::Four, 0x1234_5678),
+        (12, 0x5008, Size::Eight, 0x40_0005),
+        (12, 0x1fe8, Size::Eight, 0x40_0005),
+        (14, 0x5008, Size::Eight, 0x5555_6666),
+        (15, 0x1fe8, Size::Eight, 0x1ff0),
+    ];
+
+    #[test]
+    fn each_ends_as_the_rules_say() {
+        let runs = runs().unwrap();
+        assert_eq!(runs.len(), ENDS.len());
+        for (mut one, (text, ssp, ip, flags)) in runs.into_iter().zip(ENDS) {
+            let before = one.state;
+            let outcome = run(&mut one.state, &mut one.pages, &one.instructions);
+            assert_eq!(outcome.to_string(), text, "{}", one.title);
+            let sp = before.sp - if one.title.starts_with("P10.") { 8 } else { 0 };
+            let after = State {
+                ssp,
+                ip,
+                flags,
+                sp,
+                ..before
+            };
+            assert_eq!(one.state, after, "{}", one.title);
+        }
+    }
+
+    #[test]
+    fn each_stores_what_the_rules_say() {
+        let mut runs = runs().unwrap();
+        for one in &mut runs {
+            run(&mut one.state, &mut one.pages, &one.instructions);
+        }
+        for (number, address, size, value) in STORED {
+            let one = &runs[number];
+            let stored = one.pages.read(address, size);
+            assert_eq!(stored, Some(value), "{} {address:#x}", one.title);
+        }
+    }
+
+    #[test]
+    fn the_hole_of_p6_is_kept_in_the_token() {
+        let mut sixth = runs().unwrap().swap_remove(6);
+        sixth.instructions.truncate(2);
+        run(&mut sixth.state, &mut sixth.pages, &sixth.instructions);
+        assert_eq!(sixth.pages.read(0x1fe8, Size::Eight), Some(0x1ff5));
+        assert_eq!(sixth.pages.read(0x1ff0, Size::Four), Some(0));
+        assert_eq!(sixth.state.ssp, 0x2ff8);
+    }
+}

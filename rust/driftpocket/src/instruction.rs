@@ -1,0 +1,211 @@
+//! Instructions: four words each, any of them.
+
+use std::fmt;
+
+/// How many words an instruction has.
+pub const INSTRUCTION_WORDS: usize = 4;
+
+/// An instruction.
+///
+/// Every number can be written down here. One that breaks the form of its code
+/// is answered by the library with refusal 6.
+#[derive(Clone, Copy, Debug, Default, PartialEq, Eq)]
+pub struct Instruction {
+    /// What it does: 1 to 8.
+    pub code: u64,
+    /// How many bytes it has: 1 to 15.
+    pub length: u64,
+    /// The first operand, or 0.
+    pub a: u64,
+    /// The second operand, or 0.
+    pub b: u64,
+}
+
+/// The codes of the rules.
+pub(crate) mod code {
+    pub const INCSSPD: u64 = 1;
+    pub const INCSSPQ: u64 = 2;
+    pub const RSTORSSP: u64 = 3;
+    pub const SAVEPREVSSP: u64 = 4;
+    pub const WRSSD: u64 = 5;
+    pub const WRSSQ: u64 = 6;
+    pub const CALL_RELATIVE: u64 = 7;
+    pub const CALL_ABSOLUTE: u64 = 8;
+}
+
+impl Instruction {
+    /// INCSSPD: drops elements of 4 bytes. The low 8 bits of the count are
+    /// used.
+    pub fn incsspd(length: u64, count: u64) -> Instruction {
+        Instruction::new(code::INCSSPD, length, 0, count)
+    }
+
+    /// INCSSPQ: drops elements of 8 bytes. The low 8 bits of the count are
+    /// used.
+    pub fn incsspq(length: u64, count: u64) -> Instruction {
+        Instruction::new(code::INCSSPQ, length, 0, count)
+    }
+
+    /// RSTORSSP: goes to the shadow stack whose token is at this address.
+    pub fn rstorssp(length: u64, address: u64) -> Instruction {
+        Instruction::new(code::RSTORSSP, length, address, 0)
+    }
+
+    /// SAVEPREVSSP: leaves a token on the previous shadow stack.
+    pub fn saveprevssp(length: u64) -> Instruction {
+        Instruction::new(code::SAVEPREVSSP, length, 0, 0)
+    }
+
+    /// WRSSD: writes the low 4 bytes of a value to a shadow stack.
+    pub fn wrssd(length: u64, address: u64, value: u64) -> Instruction {
+        Instruction::new(code::WRSSD, length, address, value)
+    }
+
+    /// WRSSQ: writes the 8 bytes of a value to a shadow stack.
+    pub fn wrssq(length: u64, address: u64, value: u64) -> Instruction {
+        Instruction::new(code::WRSSQ, length, address, value)
+    }
+
+    /// CALL, so far from the next instruction, up or down.
+    pub fn call_relative(length: u64, displacement: i32) -> Instruction {
+        let word = u64::from(displacement.cast_unsigned());
+        Instruction::new(code::CALL_RELATIVE, length, word, 0)
+    }
+
+    /// CALL to this address.
+    pub fn call_absolute(length: u64, target: u64) -> Instruction {
+        Instruction::new(code::CALL_ABSOLUTE, length, target, 0)
+    }
+
+    /// An instruction of these words.
+    fn new(code: u64, length: u64, a: u64, b: u64) -> Instruction {
+        Instruction { code, length, a, b }
+    }
+
+    /// The four words, in the order that the library takes them.
+    pub fn to_words(&self) -> [u64; INSTRUCTION_WORDS] {
+        [self.code, self.length, self.a, self.b]
+    }
+
+    /// An instruction from the four words in that order.
+    pub fn from_words(words: [u64; INSTRUCTION_WORDS]) -> Instruction {
+        let [code, length, a, b] = words;
+        Instruction::new(code, length, a, b)
+    }
+
+    /// The name of the operation, or `unknown` if there is none of this code.
+    pub fn mnemonic(&self) -> &'static str {
+        match self.code {
+            code::INCSSPD => "INCSSPD",
+            code::INCSSPQ => "INCSSPQ",
+            code::RSTORSSP => "RSTORSSP",
+            code::SAVEPREVSSP => "SAVEPREVSSP",
+            code::WRSSD => "WRSSD",
+            code::WRSSQ => "WRSSQ",
+            code::CALL_RELATIVE | code::CALL_ABSOLUTE => "CALL",
+            _ => "unknown",
+        }
+    }
+
+    /// The displacement of a relative call, if A can hold one.
+    fn displacement(&self) -> Option<i64> {
+        let word = u32::try_from(self.a).ok()?;
+        Some(i64::from(word.cast_signed()))
+    }
+
+    /// The operands in words, if the unused ones are 0.
+    fn operands(&self) -> Option<String> {
+        match (self.code, self.a, self.b) {
+            (code::INCSSPD | code::INCSSPQ, 0, count) => Some(format!("count {count:#x}")),
+            (code::RSTORSSP, address, 0) => Some(format!("{address:#x}")),
+            (code::SAVEPREVSSP, 0, 0) => Some(String::new()),
+            (code::WRSSD | code::WRSSQ, address, value) => {
+                Some(format!("{value:#x} to {address:#x}"))
+            }
+            (code::CALL_RELATIVE, _, 0) => self.displacement().map(|by| {
+                let sign = if by < 0 { '-' } else { '+' };
+                format!("relative {sign}{:#x}", by.unsigned_abs())
+            }),
+            (code::CALL_ABSOLUTE, target, 0) => Some(format!("absolute {target:#x}")),
+            _ => None,
+        }
+    }
+}
+
+/// The name with the operands. An instruction whose operands have no meaning is
+/// shown by its words.
+impl fmt::Display for Instruction {
+    fn fmt(&self, out: &mut fmt::Formatter<'_>) -> fmt::Result {
+        let name = self.mnemonic();
+        match self.operands() {
+            Some(operands) if operands.is_empty() => out.write_str(name),
+            Some(operands) => write!(out, "{name} {operands}"),
+            None => {
+                let Instruction { code, a, b, .. } = self;
+                write!(out, "{name} (code {code}, A {a:#x}, B {b:#x})")
+            }
+        }
+    }
+}
+
+#[cfg(test)]
+mod tests {
+    use super::*;
+
+    #[test]
+    fn words_of_each_operation() {
+        let cases = [
+            (Instruction::incsspd(4, 9), [1, 4, 0, 9]),
+            (Instruction::incsspq(5, 0x103), [2, 5, 0, 0x103]),
+            (Instruction::rstorssp(5, 0x2ff0), [3, 5, 0x2ff0, 0]),
+            (Instruction::saveprevssp(4), [4, 4, 0, 0]),
+            (Instruction::wrssd(6, 0x2ff4, 7), [5, 6, 0x2ff4, 7]),
+            (Instruction::wrssq(7, 0x2ff8, 8), [6, 7, 0x2ff8, 8]),
+            (Instruction::call_relative(5, 0x10), [7, 5, 0x10, 0]),
+            (Instruction::call_relative(5, -1), [7, 5, 0xffff_ffff, 0]),
+            (Instruction::call_relative(5, i32::MIN), [7, 5, 1 << 31, 0]),
+            (Instruction::call_absolute(2, 0x1234), [8, 2, 0x1234, 0]),
+        ];
+        for (instruction, words) in cases {
+            assert_eq!(instruction.to_words(), words);
+            assert_eq!(Instruction::from_words(words), instruction);
+        }
+    }
+
+    #[test]
+    fn texts() {
+        let cases = [
+            (Instruction::incsspd(4, 9), "INCSSPD count 0x9"),
+            (Instruction::incsspq(5, 0x103), "INCSSPQ count 0x103"),
+            (Instruction::rstorssp(5, 0x2ff0), "RSTORSSP 0x2ff0"),
+            (Instruction::saveprevssp(4), "SAVEPREVSSP"),
+            (Instruction::wrssd(6, 0x2ff4, 7), "WRSSD 0x7 to 0x2ff4"),
+            (Instruction::wrssq(6, 0x2ff8, 7), "WRSSQ 0x7 to 0x2ff8"),
+            (Instruction::call_relative(5, 16), "CALL relative +0x10"),
+            (Instruction::call_relative(5, -16), "CALL relative -0x10"),
+            (
+                Instruction::call_relative(5, i32::MIN),
+                "CALL relative -0x80000000",
+            ),
+            (
+                Instruction::call_absolute(2, 0x1234),
+                "CALL absolute 0x1234",
+            ),
+            (
+                Instruction::from_words([4, 4, 1, 0]),
+                "SAVEPREVSSP (code 4, A 0x1, B 0x0)",
+            ),
+            (
+                Instruction::from_words([7, 5, 1 << 32, 0]),
+                "CALL (code 7, A 0x100000000, B 0x0)",
+            ),
+            (
+                Instruction::from_words([99, 4, 0, 2]),
+                "unknown (code 99, A 0x0, B 0x2)",
+            ),
+        ];
+        for (instruction, text) in cases {
+            assert_eq!(instruction.to_string(), text);
+        }
+    }
+}

@@ -1,0 +1,351 @@
+//! What a completed instruction loaded and stored, to be shown to a person.
+//!
+//! This judges nothing. Whether an instruction completes, faults or is refused
+//! is the library's word alone; of one that did complete, [`of`] lists the
+//! loads and stores in the order of its steps. [`accounts_for`] holds such a
+//! list to the bytes that the library left.
+
+use crate::instruction::{Instruction, code};
+use crate::pages::{PageList, Size};
+use crate::state::{State, Width};
+use std::fmt;
+
+/// Whether an access loads or stores.
+#[derive(Clone, Copy, Debug, PartialEq, Eq)]
+pub enum Action {
+    /// It loads.
+    Load,
+    /// It stores.
+    Store,
+}
+
+/// Which stack an access belongs to.
+#[derive(Clone, Copy, Debug, PartialEq, Eq)]
+pub enum Stack {
+    /// The shadow stack.
+    Shadow,
+    /// The ordinary stack.
+    Ordinary,
+}
+
+/// One load or store.
+#[derive(Clone, Copy, Debug, PartialEq, Eq)]
+pub struct Access {
+    /// Whether it loads or stores.
+    pub action: Action,
+    /// Which stack it belongs to.
+    pub stack: Stack,
+    /// The address of its first byte.
+    pub address: u64,
+    /// How many bytes it has.
+    pub size: Size,
+    /// Where the addresses of its bytes start again at 0.
+    pub width: Width,
+    /// What was loaded or stored.
+    pub value: u64,
+}
+
+impl fmt::Display for Access {
+    fn fmt(&self, out: &mut fmt::Formatter<'_>) -> fmt::Result {
+        let (action, way) = match self.action {
+            Action::Load => ("load", "from"),
+            Action::Store => ("store", "to"),
+        };
+        let stack = match self.stack {
+            Stack::Shadow => "shadow",
+            Stack::Ordinary => "ordinary",
+        };
+        let (bytes, address, value) = (self.size.bytes(), self.address, self.value);
+        write!(
+            out,
+            "{action} {value:#x}, {bytes} bytes, {way} {stack} {address:#x}"
+        )
+    }
+}
+
+/// The loads and stores of an instruction that the library completed, from the
+/// state and the pages before it.
+///
+/// Nothing comes back if the code is unknown or a loaded byte lies on no page.
+/// The library completes no such instruction. What comes back for others that
+/// it did not complete means nothing.
+pub fn of(instruction: &Instruction, state: &State, pages: &PageList) -> Option<Vec<Access>> {
+    let mut list = List {
+        state,
+        pages,
+        accesses: Vec::new(),
+    };
+    match instruction.code {
+        code::INCSSPD => list.incssp(Size::Four, instruction.b)?,
+        code::INCSSPQ => list.incssp(Size::Eight, instruction.b)?,
+        code::RSTORSSP => list.rstorssp(instruction.a)?,
+        code::SAVEPREVSSP => list.saveprevssp()?,
+        code::WRSSD => list.store(Stack::Shadow, Size::Four, instruction.a, instruction.b),
+        code::WRSSQ => list.store(Stack::Shadow, Size::Eight, instruction.a, instruction.b),
+        code::CALL_RELATIVE | code::CALL_ABSOLUTE => list.call(state.next(instruction.length)),
+        _ => return None,
+    }
+    Some(list.accesses)
+}
+
+/// Whether a list of accesses tells all that happened to the bytes: each load
+/// gives what they held at that moment, and the stores, made in order on the
+/// pages before, give the pages after, byte for byte.
+pub fn accounts_for(before: &PageList, after: &PageList, accesses: &[Access]) -> bool {
+    let mut pages = before.clone();
+    accesses.iter().all(|access| repeat(access, &mut pages)) && pages == *after
+}
+
+/// Makes an access once more. Gives whether it can be made and, for a load,
+/// whether its value is the same.
+fn repeat(access: &Access, pages: &mut PageList) -> bool {
+    let Access {
+        address,
+        size,
+        width,
+        value,
+        ..
+    } = *access;
+    match access.action {
+        Action::Load => pages.read_wrapped(address, size, width) == Some(value),
+        Action::Store => pages.write_wrapped(address, size, width, value).is_ok(),
+    }
+}
+
+/// A list in the making. No operation loads a byte that it stored before, so
+/// every load reads the pages as they were.
+struct List<'run> {
+    state: &'run State,
+    pages: &'run PageList,
+    accesses: Vec<Access>,
+}
+
+impl List<'_> {
+    /// INCSSP: the first element and, if any is dropped, the last of them.
+    fn incssp(&mut self, size: Size, count: u64) -> Option<()> {
+        let range = count % 256;
+        self.load(size, self.state.ssp)?;
+        if let Some(others) = range.checked_sub(1) {
+            let last = self.state.ssp.wrapping_add(size.bytes() * others);
+            self.load(size, last)?;
+        }
+        Some(())
+    }
+
+    /// RSTORSSP: the token, which becomes one of the old pointer.
+    fn rstorssp(&mut self, address: u64) -> Option<()> {
+        self.load(Size::Eight, address)?;
+        let old = self.state.ssp.wrapping_add(self.long_bit() + 2);
+        self.store(Stack::Shadow, Size::Eight, address, self.wrap(old));
+        Some(())
+    }
+
+    /// SAVEPREVSSP: the token, the hole above it if CF is set, and what goes
+    /// to the previous stack.
+    fn saveprevssp(&mut self) -> Option<()> {
+        let token = self.load(Size::Eight, self.state.ssp)?;
+        if self.state.carry() {
+            self.load(Size::Four, self.state.ssp.wrapping_add(8))?;
+        }
+        let old = token & !3;
+        let place = (old & !7).wrapping_sub(8);
+        self.store(Stack::Shadow, Size::Four, old.wrapping_sub(4), 0);
+        self.store(Stack::Shadow, Size::Eight, place, old + self.long_bit());
+        Some(())
+    }
+
+    /// CALL: the return address, on the ordinary stack and, if enabled, on the
+    /// shadow stack.
+    fn call(&mut self, next: u64) {
+        let size = match self.state.width() {
+            Width::Bits32 => Size::Four,
+            Width::Bits64 => Size::Eight,
+        };
+        let below = |pointer: u64| pointer.wrapping_sub(size.bytes());
+        self.store(Stack::Ordinary, size, below(self.state.sp), next);
+        if self.state.is_enabled() {
+            self.store(Stack::Shadow, size, below(self.state.ssp), next);
+        }
+    }
+
+    /// The mark of tokens in 64-bit mode.
+    fn long_bit(&self) -> u64 {
+        u64::from(self.state.is_long())
+    }
+
+    /// A number, reduced as the mode does.
+    fn wrap(&self, number: u64) -> u64 {
+        self.state.width().wrap(number)
+    }
+
+    /// Lists a load from the shadow stack, and gives what it loads.
+    fn load(&mut self, size: Size, address: u64) -> Option<u64> {
+        let address = self.wrap(address);
+        let width = self.state.width();
+        let value = self.pages.read_wrapped(address, size, width)?;
+        self.list(Action::Load, Stack::Shadow, size, address, value);
+        Some(value)
+    }
+
+    /// Lists a store.
+    fn store(&mut self, stack: Stack, size: Size, address: u64, value: u64) {
+        let address = self.wrap(address);
+        self.list(Action::Store, stack, size, address, size.cut(value));
+    }
+
+    /// Lists an access.
+    fn list(&mut self, action: Action, stack: Stack, size: Size, address: u64, value: u64) {
+        self.accesses.push(Access {
+            action,
+            stack,
+            address,
+            size,
+            width: self.state.width(),
+            value,
+        });
+    }
+}
+
+#[cfg(test)]
+mod tests {
+    use super::*;
+    use crate::Kind;
+
+    /// Pages 1000 and 2000 of user shadow stacks, and 5000.
+    fn pages() -> PageList {
+        let mut pages = PageList::new();
+        pages.push(0x1000, Kind::UserShadow).unwrap();
+        pages.push(0x2000, Kind::UserShadow).unwrap();
+        pages.push(0x5000, Kind::Ordinary).unwrap();
+        pages
+    }
+
+    /// A state of user code with shadow stacks enabled.
+    fn state(mode: u64, ssp: u64) -> State {
+        State {
+            mode,
+            cpl: 3,
+            cet: 1,
+            ucet: 1,
+            ip: 0x40_0000,
+            sp: 0x5010,
+            ssp,
+            limit: 0xffff_ffff,
+            ..State::default()
+        }
+    }
+
+    /// The accesses as text.
+    fn texts(instruction: Instruction, state: &State, pages: &PageList) -> Vec<String> {
+        let accesses = of(&instruction, state, pages).unwrap();
+        accesses.iter().map(Access::to_string).collect()
+    }
+
+    #[test]
+    fn increments_load_the_first_and_the_last_element() {
+        let mut pages = pages();
+        pages.write(0x1fe0, Size::Eight, 0x1_0000_0002).unwrap();
+        let state = state(2, 0x1fe0);
+        let first = "load 0x100000002, 8 bytes, from shadow 0x1fe0";
+        let none = texts(Instruction::incsspq(5, 0x100), &state, &pages);
+        assert_eq!(none, [first]);
+        let three = texts(Instruction::incsspq(5, 0x103), &state, &pages);
+        assert_eq!(three, [first, "load 0x0, 8 bytes, from shadow 0x1ff0"]);
+        let two = texts(Instruction::incsspd(4, 2), &state, &pages);
+        assert_eq!(
+            two,
+            [
+                "load 0x2, 4 bytes, from shadow 0x1fe0",
+                "load 0x1, 4 bytes, from shadow 0x1fe4"
+            ]
+        );
+    }
+
+    #[test]
+    fn a_switch_and_back() {
+        let mut pages = pages();
+        pages.write(0x2ff0, Size::Eight, 0x2ff9).unwrap();
+        let restore = texts(Instruction::rstorssp(5, 0x2ff0), &state(2, 0x1ff4), &pages);
+        assert_eq!(
+            restore,
+            [
+                "load 0x2ff9, 8 bytes, from shadow 0x2ff0",
+                "store 0x1ff7, 8 bytes, to shadow 0x2ff0"
+            ]
+        );
+        pages.write(0x2ff0, Size::Eight, 0x1ff7).unwrap();
+        let save = texts(Instruction::saveprevssp(4), &state(2, 0x2ff0), &pages);
+        assert_eq!(
+            save,
+            [
+                "load 0x1ff7, 8 bytes, from shadow 0x2ff0",
+                "store 0x0, 4 bytes, to shadow 0x1ff0",
+                "store 0x1ff5, 8 bytes, to shadow 0x1fe8"
+            ]
+        );
+    }
+
+    #[test]
+    fn a_hole_is_loaded_where_the_carry_flag_is_set() {
+        let mut pages = pages();
+        pages.write(0x2fe0, Size::Eight, 0x1ff2).unwrap();
+        let state = State {
+            flags: 1,
+            ..state(1, 0x2fe0)
+        };
+        let save = texts(Instruction::saveprevssp(4), &state, &pages);
+        assert_eq!(
+            save,
+            [
+                "load 0x1ff2, 8 bytes, from shadow 0x2fe0",
+                "load 0x0, 4 bytes, from shadow 0x2fe8",
+                "store 0x0, 4 bytes, to shadow 0x1fec",
+                "store 0x1ff0, 8 bytes, to shadow 0x1fe8"
+            ]
+        );
+    }
+
+    #[test]
+    fn calls_and_writes() {
+        let call = Instruction::call_relative(5, 0x10);
+        let enabled = state(2, 0x1ff0);
+        let both = texts(call, &enabled, &pages());
+        let ordinary = "store 0x400005, 8 bytes, to ordinary 0x5008";
+        assert_eq!(
+            both,
+            [ordinary, "store 0x400005, 8 bytes, to shadow 0x1fe8"]
+        );
+        let off = State { ucet: 0, ..enabled };
+        assert_eq!(texts(call, &off, &pages()), [ordinary]);
+        let narrow = texts(call, &State { mode: 1, ..off }, &pages());
+        assert_eq!(narrow, ["store 0x400005, 4 bytes, to ordinary 0x500c"]);
+        let write = Instruction::wrssd(6, 0x2ff4, 0x1_0000_0007);
+        let written = texts(write, &enabled, &pages());
+        assert_eq!(written, ["store 0x7, 4 bytes, to shadow 0x2ff4"]);
+    }
+
+    #[test]
+    fn what_cannot_have_completed_has_no_list() {
+        let unknown = Instruction::from_words([9, 1, 0, 0]);
+        assert_eq!(of(&unknown, &state(2, 0x1ff0), &pages()), None);
+        let off_the_pages = Instruction::incsspq(5, 0);
+        assert_eq!(of(&off_the_pages, &state(2, 0x3000), &pages()), None);
+    }
+
+    #[test]
+    fn a_list_is_held_to_the_bytes() {
+        let mut before = pages();
+        before.write(0x2ff0, Size::Eight, 0x2ff9).unwrap();
+        let restore = Instruction::rstorssp(5, 0x2ff0);
+        let accesses = of(&restore, &state(2, 0x1ff0), &before).unwrap();
+        let mut after = before.clone();
+        assert!(!accounts_for(&before, &after, &accesses));
+        after.write(0x2ff0, Size::Eight, 0x1ff3).unwrap();
+        assert!(accounts_for(&before, &after, &accesses));
+        assert!(!accounts_for(&after, &after, &accesses));
+        assert!(!accounts_for(&before, &after, &accesses[..1]));
+        after.write(0x5000, Size::Four, 1).unwrap();
+        assert!(!accounts_for(&before, &after, &accesses));
+        assert!(!accounts_for(&PageList::new(), &after, &accesses));
+    }
+}

@@ -1,0 +1,114 @@
+//! What is listed of an instruction accounts for every byte that the library
+//! changed, on runs that look random.
+
+mod common;
+
+use common::{pages, user};
+use driftpocket::{Instruction, Kind, PageList, Size, State, run, trace};
+
+/// Numbers that look random.
+struct Dice(u64);
+
+impl Dice {
+    /// A number below a bound.
+    fn below(&mut self, bound: u64) -> u64 {
+        self.0 ^= self.0 << 13;
+        self.0 ^= self.0 >> 7;
+        self.0 ^= self.0 << 17;
+        self.0 % bound
+    }
+
+    /// One of these.
+    fn pick<T: Copy>(&mut self, choices: &[T]) -> T {
+        choices[self.below(choices.len() as u64) as usize]
+    }
+
+    /// An address near the ends of pages, and most often a multiple of 4.
+    fn address(&mut self) -> u64 {
+        let near = self.pick(&[0x1000, 0x2000, 0x2000, 0x3000, 0, 1 << 32, 0x5010]);
+        let step = self.pick(&[4, 8, 8, 8, 1]);
+        let off = step * self.below(8);
+        let address: u64 = if self.below(3) == 0 {
+            near + off
+        } else {
+            u64::wrapping_sub(near, off)
+        };
+        address % (1 << 33)
+    }
+
+    /// An instruction, well formed as a rule.
+    fn instruction(&mut self, narrow: bool) -> Instruction {
+        let length = 1 + self.below(15);
+        let address = self.address();
+        let value = self.below(u64::from(u32::MAX));
+        match self.below(if narrow { 7 } else { 9 }) {
+            0 => Instruction::incsspd(length, self.below(4)),
+            1 => Instruction::saveprevssp(length),
+            2 | 3 => Instruction::rstorssp(length, address & !7),
+            4 => Instruction::wrssd(length, address, value),
+            5 => Instruction::call_relative(length, value as i32 % 0x1000),
+            6 => Instruction::call_absolute(length, value),
+            7 => Instruction::incsspq(length, self.below(4)),
+            _ => Instruction::wrssq(length, address, value << 20),
+        }
+    }
+
+    /// A state of any mode with shadow stacks enabled most of the time.
+    fn state(&mut self) -> State {
+        let mode = 1 + self.below(2);
+        State {
+            mode,
+            ucet: self.pick(&[3, 3, 3, 2]),
+            sp: 0x5000 + self.below(0x1008),
+            flags: self.below(2),
+            ..user(self.address() & !3 & 0xffff_ffff)
+        }
+    }
+
+    /// Pages with tokens on them, good ones and others.
+    fn pages(&mut self, mode: u64) -> PageList {
+        let mut all = pages(&[
+            (0x2000, Kind::UserShadow),
+            (0x5000, Kind::Ordinary),
+            (0x1000, Kind::UserShadow),
+            (0xffff_f000, Kind::UserShadow),
+            (0, Kind::UserShadow),
+            (1 << 32, Kind::UserShadow),
+        ]);
+        for _ in 0..60 {
+            let place = self.address() & !7;
+            let mark = self.pick(&[mode - 1, mode + 1]);
+            let token = (place + 8 + 4 * self.below(2)) | mark;
+            let _ = all.write(place, Size::Eight, token);
+        }
+        all
+    }
+}
+
+#[test]
+fn every_completed_instruction_is_accounted_for() {
+    let mut dice = Dice(0x9e37_79b9_7f4a_7c15);
+    let mut completed = [0; 9];
+    for _ in 0..3000 {
+        let mut state = dice.state();
+        let mut pages = dice.pages(state.mode);
+        for _ in 0..8 {
+            let instruction = dice.instruction(state.mode == 1);
+            let (opening, before) = (state, pages.clone());
+            let outcome = run(&mut state, &mut pages, &[instruction]);
+            if outcome.count == 0 {
+                assert_eq!((state, &pages), (opening, &before));
+                continue;
+            }
+            let accesses = trace::of(&instruction, &opening, &before).unwrap();
+            assert!(
+                trace::accounts_for(&before, &pages, &accesses),
+                "{instruction} from {opening:?}: {accesses:?}"
+            );
+            completed[instruction.code as usize] += 1;
+        }
+    }
+    for (code, count) in completed.iter().enumerate().skip(1) {
+        assert!(*count > 20, "code {code} completed {count} times");
+    }
+}

@@ -1,0 +1,121 @@
+//! The numbers of the C header are those of this crate.
+
+mod common;
+
+use driftpocket::{
+    INSTRUCTION_WORDS, Instruction, Kind, PAGE_BYTES, REPORT_WORDS, Refusal, STATE_WORDS, State,
+    Vector, run_raw,
+};
+use std::collections::BTreeMap;
+
+/// The header.
+const HEADER: &str = include_str!("../../../include/driftpocket.h");
+
+/// The numbers that the header defines, by their names without the prefix.
+fn numbers() -> BTreeMap<&'static str, u64> {
+    HEADER
+        .lines()
+        .filter_map(|line| line.strip_prefix("#define DRIFTPOCKET_"))
+        .filter_map(|line| {
+            let mut parts = line.split_whitespace();
+            Some((parts.next()?, parts.next()?.parse().ok()?))
+        })
+        .collect()
+}
+
+/// Holds some of the header's numbers to these.
+fn expect(wanted: &[(&str, u64)]) {
+    let numbers = numbers();
+    for (name, number) in wanted {
+        assert_eq!(numbers.get(name), Some(number), "{name}");
+    }
+}
+
+#[test]
+fn sizes_and_limits() {
+    expect(&[
+        ("STATE_WORDS", STATE_WORDS as u64),
+        ("REPORT_WORDS", REPORT_WORDS as u64),
+        ("INSTRUCTION_WORDS", INSTRUCTION_WORDS as u64),
+        ("PAGE_BYTES", PAGE_BYTES as u64),
+        ("MOST_PAGES", 16),
+        ("MOST_INSTRUCTIONS", 1024),
+    ]);
+}
+
+#[test]
+fn kinds_codes_and_bits() {
+    let code = |instruction: Instruction| instruction.code;
+    expect(&[
+        ("USER_SHADOW", Kind::UserShadow.number()),
+        ("SUPERVISOR_SHADOW", Kind::SupervisorShadow.number()),
+        ("ORDINARY", Kind::Ordinary.number()),
+        ("INCSSPD", code(Instruction::incsspd(1, 0))),
+        ("INCSSPQ", code(Instruction::incsspq(1, 0))),
+        ("RSTORSSP", code(Instruction::rstorssp(1, 0))),
+        ("SAVEPREVSSP", code(Instruction::saveprevssp(1))),
+        ("WRSSD", code(Instruction::wrssd(1, 0, 0))),
+        ("WRSSQ", code(Instruction::wrssq(1, 0, 0))),
+        ("CALL_RELATIVE", code(Instruction::call_relative(1, 0))),
+        ("CALL_ABSOLUTE", code(Instruction::call_absolute(1, 0))),
+        ("SH_STK_EN", 1),
+        ("WR_SHSTK_EN", 2),
+        ("MODE_REAL", 0),
+        ("MODE_PROTECTED", 1),
+        ("MODE_LONG", 2),
+    ]);
+}
+
+#[test]
+fn fields_of_the_state() {
+    let names = [
+        "MODE", "CPL", "CET", "U_CET", "S_CET", "IP", "SP", "SSP", "RFLAGS", "LIMIT",
+    ];
+    let places: Vec<_> = names.into_iter().zip(0..).collect();
+    expect(&places);
+    let state = State {
+        ssp: 7,
+        ..State::default()
+    };
+    assert_eq!(state.to_words()[numbers()["SSP"] as usize], 7);
+}
+
+#[test]
+fn refusals_and_vectors() {
+    expect(&[
+        ("COMPLETED", 0),
+        ("REFUSED_COUNT", Refusal::PageCount.number()),
+        ("REFUSED_KIND", Refusal::PageKind.number()),
+        ("REFUSED_ADDRESS", Refusal::PageAddress.number()),
+        ("REFUSED_REPEATED", Refusal::PageRepeated.number()),
+        ("REFUSED_STATE", Refusal::State.number()),
+        ("REFUSED_FORM", Refusal::Form.number()),
+        ("REFUSED_WORDS", Refusal::Words.number()),
+        ("REFUSED_ROOM", Refusal::Room.number()),
+        ("FAULT", 256),
+        ("UD", Vector::InvalidOpcode.number()),
+        ("SS", Vector::Stack.number()),
+        ("GP", Vector::Protection.number()),
+        ("PF", Vector::Page.number()),
+        ("CP", Vector::ControlProtection.number()),
+        ("CP_RSTORSSP", 4),
+    ]);
+}
+
+#[test]
+fn places_in_the_report() {
+    let mut state = common::user(0x3000).to_words();
+    let words = Instruction::incsspq(5, 0).to_words();
+    let list = common::pages(&[(0x2000, Kind::UserShadow)]);
+    let mut bytes = list.bytes().to_vec();
+    let mut report = [9; REPORT_WORDS];
+    let answer = run_raw(&mut state, list.entries(), &mut bytes, &words, &mut report);
+    let numbers = numbers();
+    let of_report = |name: &str| report[numbers[name] as usize];
+    assert_eq!(answer, numbers["FAULT"] + numbers["PF"]);
+    assert_eq!(of_report("REPORT_COUNT"), 0);
+    assert_eq!(of_report("REPORT_REFUSAL"), 0);
+    assert_eq!(of_report("REPORT_VECTOR"), numbers["PF"]);
+    assert_eq!(of_report("REPORT_CODE"), 0);
+    assert_eq!(of_report("REPORT_ADDRESS"), 0x3000);
+}
