@@ -29,8 +29,8 @@ Unchanged = (set : InstructionSet) (look : Lookup) (i : Instruction) (s : State)
 
 -- how a run of n listed instructions relates to single operations: `after k` is where k of them lead, with the last one's answer
 pub record Counted (set : InstructionSet) (look : Lookup) (listed : ℕ → Instruction) (n : ℕ) (s : State) (bytes : List ℕ) (r : Run) : Type 0 where
-  -- those that are counted completed
   pub few : r .count ≤ n
+  -- those that are counted completed
   pub completed : (j : ℕ) → j < r .count → after set look listed (suc j) s bytes .answer ≡ Completed
   -- state and bytes are those after that many single operations
   pub state-after : r .state ≡ after set look listed (r .count) s bytes .state
@@ -63,7 +63,7 @@ stepsTaken Completed count = count
 stepsTaken (Refused refusal) count = suc count
 stepsTaken (Faulted fault) count = suc count
 
--- a run of n instructions takes at most n steps; one that is refused before its first takes none
+-- a run of n instructions takes at most n steps (and one that is refused before its first takes none: `RefusedBefore`)
 abbrev pub AtMostN : Type 0
 AtMostN = (set : InstructionSet) (pages : List ℕ) (s : State) (bytes words : List ℕ)
     → check pages (length bytes) (inRange s) (length words) ≡ Passed

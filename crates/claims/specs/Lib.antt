@@ -6,3 +6,4 @@ pub mod MorePages
 pub mod MoreRights
 pub mod Ledger
 pub mod Ranges
+pub mod Worked

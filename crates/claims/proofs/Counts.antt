@@ -1,0 +1,135 @@
+-- A run's count against single operations: what demands 1 and 3 both stand on. Assumes nothing.
+--
+--     refused-stops, faulted-stops, completes    which answers are not that an instruction completed
+--     one-more                                   what holds below k and at k
+--     unchanged                                  what does not complete changes nothing
+--     counted                                    a run of the steps is tied to `after`, as `Counted` says
+-- And back, where a run ends, by which instructions complete:
+--     goes-as-far                                the first k do: it counts at least k
+--     ends-at-end                                all do: it ends at the end of the list
+--     ends-at-stop                               the first k do and the next does not: it ends there, with that one's answer
+use Prim.Native.Nat.{ℕ, zero, suc, _+_, _≤_, _<_}
+use mathlib.Core.Bool.{Bool, true, false, cond}
+use mathlib.Core.List.{List}
+use mathlib.Core.Path.{_≡_, refl, sym, _∙_}
+use native.Mathlib.Decide.{ℕ-discrete}
+use native.Mathlib.Omega.{arith}
+use Rattle.memory.specs.Pages.{Lookup}
+use Rattle.processor.specs.Prog.{Step, Result, ended, broken, settle, interp, operate}
+use Rattle.processor.specs.declared.answer.Answer.{Answer}
+use Rattle.processor.specs.declared.answer.Answer.the-variants.{Completed, Refused, Faulted}
+use Rattle.processor.specs.declared.answer.Fault.{Fault}
+use Rattle.processor.specs.declared.answer.Refusal.{Refusal}
+use Rattle.processor.specs.declared.answer.Refusal.the-variants.{Instruction as BadForm}
+use Rattle.processor.specs.declared.state.State.{State}
+use Rattle.replay.specs.Exec.{InstructionSet, exec, refused, perform}
+use Rattle.replay.specs.Run.{Run, endsAt, onward, runFrom, after}
+use Rattle.replay.specs.declared.instruction.Instruction.{Instruction}
+use Rattle.claims.specs.Ends.{Unchanged, Counted}
+
+-- ---- answers
+
+pub refused-stops : (refusal : Refusal) → Refused refusal ≡ Completed → ⊥
+refused-stops refusal e = let z : _≡_ {A = ℕ} 0 1 = cc in omega arith
+
+pub faulted-stops : (fault : Fault) → Faulted fault ≡ Completed → ⊥
+faulted-stops fault e = let z : _≡_ {A = ℕ} 0 1 = cc in omega arith
+
+pub completes : (a : Answer) → Dec (a ≡ Completed)
+completes Completed = yes refl
+completes (Refused refusal) = no (refused-stops refusal)
+completes (Faulted fault) = no (faulted-stops fault)
+
+-- ---- counts
+
+-- what holds below k and at k holds below its successor
+pub one-more : (P : ℕ → Type 0) (k : ℕ) → ((j : ℕ) → j < k → P j) → P k → (j : ℕ) → j < suc k → P j
+one-more P k below here j h = elim (ℕ-discrete j k) [ yes at ↦ rw at here | no off ↦ below j (omega arith) ]
+
+-- ---- one instruction
+
+pub unchanged : Unchanged
+unfolding perform operate
+unchanged set look i s bytes stops = go (set .fits i (s .mode)) (interp look (exec set i s) bytes) stops
+  where
+    by : Bool → Result State → Step
+    by t r = cond t (settle s bytes r) (refused BadForm s bytes)
+
+    go : (t : Bool) (r : Result State) → (by t r .answer ≡ Completed → ⊥) → (by t r .state ≡ s) × (by t r .bytes ≡ bytes)
+    go true (ended last stored) no-end = absurd (no-end refl)
+    go true (broken fault) no-end = (refl, refl)
+    go false r no-end = (refl, refl)
+
+-- ---- a run of the steps
+
+module _ (set : InstructionSet) (look : Lookup) (listed : ℕ → Instruction) (s : State) (bytes : List ℕ) where
+  -- the j-th instruction completes
+  abbrev pub Done : ℕ → Type 0
+  Done j = after set look listed (suc j) s bytes .answer ≡ Completed
+
+  -- the k-th instruction does not complete, and those before it did
+  stopped : (k left : ℕ) → ((j : ℕ) → j < k → Done j) → (Done k → ⊥) → Counted set look listed (k + suc left) s bytes (endsAt k (after set look listed (suc k) s bytes))
+  unfolding after
+  stopped k left before stops =
+      let now : Step = after set look listed k s bytes in
+      let same = unchanged set look (listed k) (now .state) (now .bytes) stops in
+      record {
+        few = omega arith;
+        completed = before;
+        state-after = same .0;
+        bytes-after = same .1;
+        at-end = λ e. absurd (stops e);
+        at-stop = λ no-end. (omega arith, refl);
+      }
+
+  -- from the k-th instruction on, if those before it completed
+  counted-from : (k left : ℕ) → ((j : ℕ) → j < k → Done j)
+      → Counted set look listed (k + left) s bytes (runFrom set look listed k left (after set look listed k s bytes .state) (after set look listed k s bytes .bytes))
+  unfolding runFrom after
+  counted-from k zero before = record { few = omega arith; completed = before; state-after = refl; bytes-after = refl; at-end = λ e. omega arith; at-stop = λ no-end. absurd (no-end refl) }
+  counted-from k (suc left) before = go (after set look listed (suc k) s bytes .answer) refl (λ now. counted-from (suc k) left (one-more Done k before now))
+    where
+      next : Run
+      next = runFrom set look listed (suc k) left (after set look listed (suc k) s bytes .state) (after set look listed (suc k) s bytes .bytes)
+
+      sum : suc k + left ≡ k + suc left
+      sum = omega arith
+
+      go : (a : Answer) → after set look listed (suc k) s bytes .answer ≡ a → (Done k → Counted set look listed (suc k + left) s bytes next)
+          → Counted set look listed (k + suc left) s bytes (onward a next (endsAt k (after set look listed (suc k) s bytes)))
+      go Completed e onwards = rw (← sum) (onwards e)
+      go (Refused refusal) e onwards = stopped k left before (λ d. refused-stops refusal (sym e ∙ d))
+      go (Faulted fault) e onwards = stopped k left before (λ d. faulted-stops fault (sym e ∙ d))
+
+  -- from the first on
+  pub counted : (n : ℕ) → Counted set look listed n s bytes (runFrom set look listed 0 n s bytes)
+  unfolding after
+  counted n = rw from-zero at (counted-from 0 n (λ j h. absurd (omega arith)))
+    where
+      from-zero : 0 + n ≡ n
+      from-zero = omega arith
+
+  -- ---- where a run ends, by which instructions complete
+
+  module _ (n : ℕ) (r : Run) (c : Counted set look listed n s bytes r) (k : ℕ) (before : (j : ℕ) → j < k → Done j) where
+    -- the first k complete, so a run counts at least k
+    pub goes-as-far : k ≤ n → k ≤ r .count
+    goes-as-far few = let enough : r .count < k → ⊥ = short in omega arith
+      where
+        short : r .count < k → ⊥
+        short h = elim (completes (r .answer)) [ yes e ↦ let all : r .count ≡ n = c .at-end e in omega arith | no stops ↦ stops (sym (c .at-stop stops .1) ∙ before (r .count) h) ]
+
+    -- all complete: the run ends at the end of the list
+    pub ends-at-end : k ≡ n → (r .count ≡ k) × (r .answer ≡ Completed)
+    ends-at-end all =
+        let far : k ≤ r .count = goes-as-far (omega arith) in
+        let few : r .count ≤ n = c .few in
+        (omega arith, elim (completes (r .answer)) [ yes e ↦ e | no stops ↦ let early : r .count < n = c .at-stop stops .0 in absurd (omega arith) ])
+
+    -- the next does not complete: the run ends there, with its answer
+    pub ends-at-stop : k < n → (Done k → ⊥) → (r .count ≡ k) × (r .answer ≡ after set look listed (suc k) s bytes .answer)
+    ends-at-stop h stops =
+        let far : k ≤ r .count = goes-as-far (omega arith) in
+        let no-farther : k < r .count → ⊥ = λ beyond. stops (c .completed k beyond) in
+        let there : r .count ≡ k = omega arith in
+        (there, elim (completes (r .answer)) [ yes e ↦ let all : r .count ≡ n = c .at-end e in absurd (omega arith) | no ends ↦ sym (rw there at (c .at-stop ends .1)) ])

@@ -1,0 +1,63 @@
+-- Demand 1: how a run ends, and what it leaves. Assumes nothing.
+use Prim.Native.Nat.{ℕ, _/_, _≤_, _<_}
+use mathlib.Core.List.{List}
+use mathlib.Core.Path.{_≡_, refl}
+use lib.ListN.{length}
+use Rattle.memory.specs.Pages.{spot}
+use Rattle.processor.specs.State.{inRange}
+use Rattle.processor.specs.declared.answer.Answer.{Answer}
+use Rattle.processor.specs.declared.answer.Answer.the-variants.{Completed, Refused, Faulted}
+use Rattle.processor.specs.declared.state.State.{State}
+use Rattle.replay.specs.Instruction.{instructionAt}
+use Rattle.replay.specs.Exec.{InstructionSet}
+use Rattle.replay.specs.Run.{check, runIf, runFrom, run}
+use Rattle.replay.specs.declared.steps.Tested.{Tested}
+use Rattle.replay.specs.declared.steps.Tested.the-variants.{Passed, Failed}
+use Rattle.claims.specs.Ends.{RefusedBefore, CountTied, AllComplete, CompletedExactly, stepsTaken, AtMostN}
+use Rattle.claims.proofs.Counts.{refused-stops, faulted-stops, counted, ends-at-end}
+pub use Rattle.claims.proofs.Counts.{unchanged}
+
+pub refused-before : RefusedBefore
+unfolding run
+refused-before set pages s bytes words refusal e = rw e
+
+pub count-tied : CountTied
+unfolding run
+count-tied set pages s bytes words e = rw e (counted set (spot pages (length bytes)) (instructionAt words) s bytes (length words / 4))
+
+module _ (set : InstructionSet) (pages : List ℕ) (s : State) (bytes words : List ℕ) where
+  abbrev tested : Tested
+  tested = check pages (length bytes) (inRange s) (length words)
+
+  -- a run that completes was not refused before its first step
+  passed : run set pages s bytes words .answer ≡ Completed → tested ≡ Passed
+  unfolding run
+  passed e = go tested refl e
+    where
+      go : (t : Tested) → tested ≡ t → runIf t (runFrom set (spot pages (length bytes)) (instructionAt words) 0 (length words / 4) s bytes) s bytes .answer ≡ Completed → tested ≡ Passed
+      go Passed h q = h
+      go (Failed refusal) h q = absurd (refused-stops refusal q)
+
+  -- its count is the whole list's, and what is counted completed
+  all-complete : run set pages s bytes words .answer ≡ Completed → AllComplete set pages s bytes words
+  all-complete e j h =
+      let c = count-tied set pages s bytes words (passed e) in
+      c .completed j (rw (c .at-end e) h)
+
+  completes-all : tested ≡ Passed → AllComplete set pages s bytes words → run set pages s bytes words .answer ≡ Completed
+  completes-all e all =
+      ends-at-end set (spot pages (length bytes)) (instructionAt words) s bytes (length words / 4) (run set pages s bytes words) (count-tied set pages s bytes words e) (length words / 4) all refl .1
+
+pub completed-exactly : CompletedExactly
+completed-exactly set pages s bytes words = (λ e. (passed set pages s bytes words e, all-complete set pages s bytes words e), completes-all set pages s bytes words)
+
+-- the step that did not complete is one of the list
+steps : (a : Answer) (count n : ℕ) → count ≤ n → ((a ≡ Completed → ⊥) → count < n) → stepsTaken a count ≤ n
+steps Completed count n few early = few
+steps (Refused refusal) count n few early = early (refused-stops refusal)
+steps (Faulted fault) count n few early = early (faulted-stops fault)
+
+pub at-most-n : AtMostN
+at-most-n set pages s bytes words e =
+    let c = count-tied set pages s bytes words e in
+    steps (run set pages s bytes words .answer) (run set pages s bytes words .count) (length words / 4) (c .few) (λ stops. c .at-stop stops .0)

@@ -1,0 +1,131 @@
+-- One instruction with the permission bits switched on: no operation is shown them, so unless it was a WRSS that is not permitted it
+-- does the same. Assumes nothing.
+use Prim.Native.Nat.{ℕ}
+use mathlib.Core.Bool.{Bool, true, false, not, cond, _&&_, true≢false, and-eq-true-iff}
+use mathlib.Core.List.{List}
+use mathlib.Core.Path.{_≡_, refl, sym, _∙_, ap}
+use borrow.Author.Tests.{not-true, not-false}
+use Rattle.memory.specs.Pages.{Lookup}
+use Rattle.memory.specs.declared.access.Size.{Size}
+use Rattle.processor.specs.Answer.{ud}
+use Rattle.processor.specs.State.{usable, permitted}
+use Rattle.processor.specs.Prog.{Prog, done, stop, _>>=_, Result, ended, broken, interp, Step, operate}
+use Rattle.processor.specs.declared.answer.Answer.the-variants.{Completed, Faulted}
+use Rattle.processor.specs.declared.answer.Fault.{Fault}
+use Rattle.processor.specs.declared.answer.Refusal.the-variants.{Instruction as BadForm}
+use Rattle.processor.specs.declared.state.State.{State}
+use Rattle.processor.proofs.Laws.{continues, breaks, completes, faults}
+use Rattle.shadow.specs.Wrss.{wrss}
+use Rattle.replay.specs.Instruction.{isWrss, sizeOf}
+use Rattle.replay.specs.Permission.{hidden, shown}
+use Rattle.replay.specs.Exec.{InstructionSet, operationOf, exec, refused, perform}
+use Rattle.replay.specs.Run.{endsAt}
+use Rattle.replay.specs.declared.instruction.Instruction.{Instruction}
+use Rattle.claims.specs.MoreRights.{granted, isUd, notPermitted}
+use Rattle.claims.proofs.PermissionBits.{hidden-granted, shown-granted, still-permitted, usable-hidden}
+
+-- the step with the bits switched on in the state that it leaves
+abbrev pub onStep : Bool → Bool → Step → Step
+onStep user supervisor now = record { answer = now .answer; state = granted user supervisor (now .state); bytes = now .bytes }
+
+-- ---- the program of an instruction
+
+module _ (size : Size) (a b length : ℕ) (s : State) where
+  -- WRSS gives #UD where it is not usable, permitted or not
+  wrss-not-usable : (allowed : Bool) → usable s ≡ false → wrss size allowed a b length s ≡ stop ud
+  unfolding wrss _>>=_
+  wrss-not-usable allowed u = rw u
+
+  -- and where it is not permitted, usable or not
+  wrss-not-permitted : (t : Bool) → usable s ≡ t → wrss size false a b length s ≡ stop ud
+  unfolding wrss _>>=_
+  wrss-not-permitted true u = rw u
+  wrss-not-permitted false u = rw u
+
+-- the instruction is a WRSS that this state does not permit
+abbrev denied : Instruction → State → Bool
+denied i s = isWrss i && (usable s && not (permitted s))
+
+module _ (set : InstructionSet) (i : Instruction) (s : State) where
+  denied-program : denied i s ≡ true → operationOf set i (permitted s) (hidden s) ≡ stop ud
+  unfolding operationOf
+  denied-program e =
+      let parts = and-eq-true-iff (isWrss i) (usable s && not (permitted s)) .0 e in
+      let off = not-true (permitted s) (and-eq-true-iff (usable s) (not (permitted s)) .0 (parts .1) .1) in
+      rw (parts .0, off) (wrss-not-permitted (sizeOf i) (i .a) (i .b) (i .length) (hidden s) (usable (hidden s)) refl)
+
+module _ (user supervisor : Bool) (s : State) where
+  -- by whether it is usable: if so it was permitted and still is, if not both give #UD
+  same-wrss : (size : Size) (a b length : ℕ) (t : Bool) → usable s ≡ t → t && not (permitted s) ≡ false
+      → wrss size (permitted (granted user supervisor s)) a b length (hidden s) ≡ wrss size (permitted s) a b length (hidden s)
+  same-wrss size a b length true u e =
+      let p = not-false (permitted s) e in
+      ap (λ (allowed : Bool). wrss size allowed a b length (hidden s)) (still-permitted user supervisor s p ∙ sym p)
+  same-wrss size a b length false u e =
+      let off = usable-hidden s ∙ u in
+      wrss-not-usable size a b length (hidden s) (permitted (granted user supervisor s)) off ∙ sym (wrss-not-usable size a b length (hidden s) (permitted s) off)
+
+  -- the program is the same, whatever else the instruction is
+  same-program : (set : InstructionSet) (i : Instruction) → denied i s ≡ false
+      → operationOf set i (permitted (granted user supervisor s)) (hidden (granted user supervisor s)) ≡ operationOf set i (permitted s) (hidden s)
+  unfolding operationOf
+  same-program set i e = rw (hidden-granted user supervisor s) (go (isWrss i) e)
+    where
+      go : (t : Bool) → t && (usable s && not (permitted s)) ≡ false
+          → cond t (wrss (sizeOf i) (permitted (granted user supervisor s)) (i .a) (i .b) (i .length) (hidden s)) (set .operation i (hidden s))
+          ≡ cond t (wrss (sizeOf i) (permitted s) (i .a) (i .b) (i .length) (hidden s)) (set .operation i (hidden s))
+      go true q = same-wrss (sizeOf i) (i .a) (i .b) (i .length) (usable s) refl q
+      go false q = refl
+
+-- ---- what the program leaves, with the bits put back
+
+abbrev putBack : Prog State → State → Prog State
+putBack p s = p >>= (λ t. done (shown s t))
+
+put-back-ended : (look : Lookup) (p : Prog State) (s : State) (bytes : List ℕ) (t : State) (left : List ℕ) → interp look p bytes ≡ ended t left
+    → operate look (putBack p s) s bytes ≡ record { answer = Completed; state = shown s t; bytes = left }
+unfolding interp
+put-back-ended look p s bytes t left e = completes look (putBack p s) s bytes (shown s t) left (continues look (λ t. done (shown s t)) p bytes t left e)
+
+put-back-broken : (look : Lookup) (p : Prog State) (s : State) (bytes : List ℕ) (fault : Fault) → interp look p bytes ≡ broken fault
+    → operate look (putBack p s) s bytes ≡ record { answer = Faulted fault; state = s; bytes = bytes }
+put-back-broken look p s bytes fault e = faults look (putBack p s) s bytes fault (breaks look (λ t. done (shown s t)) p bytes fault e)
+
+same-put-back : (user supervisor : Bool) (look : Lookup) (p : Prog State) (s : State) (bytes : List ℕ) (r : Result State) → interp look p bytes ≡ r
+    → operate look (putBack p (granted user supervisor s)) (granted user supervisor s) bytes ≡ onStep user supervisor (operate look (putBack p s) s bytes)
+same-put-back user supervisor look p s bytes (ended t left) e =
+    put-back-ended look p (granted user supervisor s) bytes t left e
+    ∙ ap (λ (now : State). record { answer = Completed; state = now; bytes = left }) (shown-granted user supervisor s t)
+    ∙ ap (onStep user supervisor) (sym (put-back-ended look p s bytes t left e))
+same-put-back user supervisor look p s bytes (broken fault) e =
+    put-back-broken look p (granted user supervisor s) bytes fault e ∙ ap (onStep user supervisor) (sym (put-back-broken look p s bytes fault e))
+
+-- ---- one instruction
+
+module _ (set : InstructionSet) (look : Lookup) (i : Instruction) (s : State) (bytes : List ℕ) where
+  denied-exec : denied i s ≡ true → operate look (exec set i s) s bytes ≡ record { answer = Faulted ud; state = s; bytes = bytes }
+  unfolding exec interp
+  denied-exec e = put-back-broken look _ s bytes ud (ap (λ (p : Prog State). interp look p bytes) (denied-program set i s e))
+
+  module _ (user supervisor : Bool) where
+    -- its operation, by whether it is denied; where it is, the answer tells
+    same-exec : (t : Bool) → denied i s ≡ t → isUd (operate look (exec set i s) s bytes .answer) && denied i (operate look (exec set i s) s bytes .state) ≡ false
+        → operate look (exec set i (granted user supervisor s)) (granted user supervisor s) bytes ≡ onStep user supervisor (operate look (exec set i s) s bytes)
+    unfolding exec
+    same-exec true d e = absurd (true≢false (sym d ∙ (rw (denied-exec d) at e)))
+    same-exec false d e =
+        rw (same-program user supervisor s set i d) (same-put-back user supervisor look (operationOf set i (permitted s) (hidden s)) s bytes _ refl)
+
+    -- the whole step, where a run that ended with it would not have ended because a WRSS was not permitted
+    pub same-step : (k : ℕ) → notPermitted (endsAt k (perform set look i s bytes)) i ≡ false
+        → perform set look i (granted user supervisor s) bytes ≡ onStep user supervisor (perform set look i s bytes)
+    unfolding perform granted notPermitted
+    same-step k e = go (set .fits i (s .mode)) e
+      where
+        now : Bool → Step
+        now t = cond t (operate look (exec set i s) s bytes) (refused BadForm s bytes)
+
+        go : (t : Bool) → isUd (now t .answer) && denied i (now t .state) ≡ false
+            → cond t (operate look (exec set i (granted user supervisor s)) (granted user supervisor s) bytes) (refused BadForm (granted user supervisor s) bytes) ≡ onStep user supervisor (now t)
+        go true q = same-exec (denied i s) refl q
+        go false q = refl

@@ -1,0 +1,29 @@
+-- The worked cases, by computation: every definition on the way is opened, and both sides come to the same lists. Assumes nothing.
+use mathlib.Core.Path.{refl}
+use Rattle.memory.specs.Access.{scan, canonicalBytes, listedBytes, probe, number, value, write, written}
+use Rattle.memory.specs.Address.{wrapped, plus, minus, canonical}
+use Rattle.memory.specs.Pages.{pageOf, kindOf, wrongLength, badKind, badAddress, onPage, anyEntry, repeated, listing, inPage, spotFrom, spot}
+use Rattle.processor.specs.Prog.{_>>=_, interp, operate}
+use Rattle.processor.specs.State.{plus as plusOf, minus as minusOf, next, enabled, usable, permitted, inRange}
+use Rattle.shadow.specs.Incssp.{incssp}
+use Rattle.shadow.specs.Wrss.{wrss}
+use Rattle.switches.specs.Rstorssp.{home, goodToken, restoredFlags, rstorssp}
+use Rattle.switches.specs.Saveprevssp.{popHole, newTop, savedToken, leaveToken, saveprevssp}
+use Rattle.calls.specs.Call.{displacement, relative, inCode, runsPast, call}
+use Rattle.replay.specs.Instruction.{instructionAt, isIncssp, isWrss, isCall, isQuad, lengthFits, wordsFit, narrow, modeFits, wellFormed}
+use Rattle.replay.specs.Permission.{writeBit, withoutWrite, hidden, shown}
+use Rattle.replay.specs.Exec.{operationOf, exec, perform}
+use Rattle.replay.specs.Codes.{target, operation}
+use Rattle.replay.specs.Run.{badWords, check, runFrom, run}
+use Rattle.claims.specs.Worked.{placeIn, lowBytes, over, laidOver, withWords, lentBytes, result, expected, Worked}
+
+pub worked : Worked
+unfolding scan canonicalBytes listedBytes probe number value write written wrapped plus minus canonical
+    pageOf kindOf wrongLength badKind badAddress onPage anyEntry repeated listing inPage spotFrom spot
+    _>>=_ interp operate plusOf minusOf next enabled usable permitted inRange
+    incssp wrss home goodToken restoredFlags rstorssp popHole newTop savedToken leaveToken saveprevssp
+    displacement relative inCode runsPast call
+    instructionAt isIncssp isWrss isCall isQuad lengthFits wordsFit narrow modeFits wellFormed
+    writeBit withoutWrite hidden shown operationOf exec perform target operation badWords check runFrom run
+    placeIn lowBytes over laidOver withWords lentBytes result expected
+worked = refl

@@ -1,0 +1,3 @@
+-- What the copies of words leave, and a bound on vectors.
+
+mod Laws
