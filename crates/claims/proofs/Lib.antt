@@ -1,16 +1,26 @@
--- The theorems on whole runs, and what they stand on.
+-- The theorems on whole runs, each of the type of that name in specs/, and what they stand on.
 --
 --     EndsProof          refused-before, unchanged, count-tied, completed-exactly, at-most-n (demand 1)
 --     MorePagesProof     more-pages (demand 3, page lists)
 --     MoreRightsProof    more-rights (demand 3, permission bits)
---     WorkedProof        worked (the worked switches)
-
+--     LedgerProof        ledger
+--     RangesProof        stays-in-range, run-stays-in-range
+--     WorkedProof        worked (the worked cases)
 pub mod EndsProof
 pub mod MorePagesProof
 pub mod MoreRightsProof
+pub mod LedgerProof
+pub mod RangesProof
 pub mod WorkedProof
 mod Counts
 mod Beside
 mod NeverBack
 mod GrantedSteps
 mod PermissionBits
+mod Leaves
+mod OperationLeaves
+mod CodeNames
+mod Completions
+mod RangeParts
+mod PointerSums
+mod KeptAlong

@@ -1,4 +1,4 @@
--- The ledger of the shadow stack pointer (docs/RULES.md, "A ledger of the pointer"). Assumes nothing.
+-- The ledger of the shadow stack pointer (docs/RULES.md, "The ledger"). Assumes nothing.
 use Prim.Native.Nat.{ℕ, zero, suc, _+_, _*_, _%_, _<_}
 use mathlib.Core.Path.{_≡_}
 use mathlib.Core.Bool.{cond}
