@@ -16,7 +16,6 @@ ghost use Rattle.script.specs.Lent.{lentByte, Fresh, entriesOf, Lends, B
 ghost use Rattle.script.specs.Operation.{stateOf, instructionOf};
 
 mod line;
-mod operations;
 
 use crate::line::Command;
 use crate::line::ENTRY_LIMIT;
@@ -30,8 +29,6 @@ use crate::line::find_byte;
 use crate::line::read_numbers;
 use crate::line::read_word;
 use crate::line::wide;
-use crate::operations::Instruction;
-use crate::operations::operate;
 use libc::STDIN_FILENO;
 use libc::STDOUT_FILENO;
 use memory::Access;
@@ -47,6 +44,7 @@ use processor::Answer;
 use processor::Fault;
 use processor::Refusal;
 use processor::State;
+use replay::Instruction;
 
 // The longest input, in bytes.
 const INPUT_LIMIT: usize = 262144;
@@ -368,7 +366,7 @@ fn answer_operation(
     pages: &[u64],
     bytes: &mut [u8],
 ) -> State {
-    let outcome = operate(step, state, pages, bytes);
+    let outcome = replay::step(step, state, pages, bytes);
     let answer = outcome.answer;
     let after = outcome.state;
     match answer {
