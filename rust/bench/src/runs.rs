@@ -98,7 +98,7 @@ impl Layout {
     fn list(&self, random: &mut Random, position: usize) -> Vec<u64> {
         let shadow = self.shadow[1..].iter().map(|page| page | 1);
         let supervisor = self.supervisor.iter().map(|page| page | 2);
-        let ordinary = [self.stack | 3, self.stack + PAGE_SIZE | 3];
+        let ordinary = [self.stack | 3, (self.stack + PAGE_SIZE) | 3];
         let mut list: Vec<u64> = shadow.chain(supervisor).chain(ordinary).collect();
         random.shuffle(&mut list);
         list.insert(position, self.shadow[0] | 1);

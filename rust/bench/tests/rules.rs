@@ -127,6 +127,17 @@ fn p4_and_p5_switch_and_save() {
 }
 
 #[test]
+fn a_switch_clears_flags_and_saving_needs_a_mark() {
+    let start = Scene::new(0x1FF0).holding_word(0x2FF0, 0x2FF9);
+    let (_, after) = start.with(RFLAGS, !0).run(&[rstorssp(0x2FF0)]);
+    assert_eq!(after.state[RFLAGS], !0x8D5);
+    let unmarked = Scene::new(0x2FF0).holding_word(0x2FF0, 0x1FF1);
+    unmarked.faults(SAVEPREVSSP, GP);
+    let wide = Scene::new(0x2FF0).holding_word(0x2FF0, 1 << 32 | 0x1FF2);
+    wide.with(MODE, 1).faults(SAVEPREVSSP, GP);
+}
+
+#[test]
 fn p6_switch_with_a_hole() {
     let start = Scene::new(0x1FF4).holding_word(0x2FF0, 0x2FF9);
     let there = [rstorssp(0x2FF0), SAVEPREVSSP];
@@ -143,6 +154,14 @@ fn p6_switch_with_a_hole() {
         .holding_word(0x1FE8, 0x2FFB);
     start.leads_to(&[&there[..], &[rstorssp(0x1FE8)]].concat(), &back);
     back.faults(SAVEPREVSSP, GP);
+}
+
+#[test]
+fn the_pop_comes_before_the_carry_flag() {
+    let off_page = Scene::new(0x3000).with(RFLAGS, 1);
+    off_page.faults(SAVEPREVSSP, page_fault(0x3000));
+    let hole_off_page = Scene::new(0x2FF8).with(MODE, 1).with(RFLAGS, 1);
+    hole_off_page.faults(SAVEPREVSSP, page_fault(0x3000));
 }
 
 #[test]
@@ -178,6 +197,19 @@ fn p10_to_p12_call() {
     start.leads_to(&[call], &called);
     start.faults([8, 5, 0x8000_0000_0000, 0], GP);
     start.with(SSP, 0x1004).faults(call, page_fault(0xFFC));
+}
+
+#[test]
+fn displacements_are_signed() {
+    let start = Scene::new(0x1FF0).with(IP, 0x40_0000).with(SP, 0x5010);
+    for (displacement, target) in [
+        (0xFFFF_FFF0, 0x3F_FFF5),
+        (0x8000_0000, 0x40_0005_u64.wrapping_sub(1 << 31)),
+        (0x7FFF_FFFF, 0x8040_0004),
+    ] {
+        let (report, after) = start.run(&[[7, 5, displacement, 0]]);
+        assert_eq!((report[0], after.state[IP]), (1, target));
+    }
 }
 
 #[test]
@@ -293,6 +325,27 @@ fn refusals_of_pages_and_lists() {
         report(&state, &pages[..1], 4096, &list[..4096]),
         [1024, 0, 0, 0, 0]
     );
+}
+
+#[test]
+fn each_cpl_has_its_register_and_its_kind() {
+    for (cpl, kind) in (0..4).flat_map(|cpl| [(cpl, 1), (cpl, 2)]) {
+        let expected = match (cpl, kind) {
+            (3, 1) | (0..3, 2) => [1, 0, 0, 0, 0],
+            _ => [0, 0, 14, 0, 0x1FF0],
+        };
+        let (u_cet, s_cet) = if cpl == 3 { (1, 0) } else { (0, 1) };
+        let state = [2, cpl, 1, u_cet, s_cet, 0, 0, 0x1FF0, 0, 0];
+        assert_eq!(
+            report(&state, &[0x1000 | kind], 4096, &incsspq(0)),
+            expected
+        );
+        let off = [2, cpl, 1, s_cet, u_cet, 0, 0, 0x1FF0, 0, 0];
+        assert_eq!(
+            report(&off, &[0x1000 | kind], 4096, &incsspq(0)),
+            [0, 0, 6, 0, 0]
+        );
+    }
 }
 
 #[test]
