@@ -1,7 +1,7 @@
 //! Times the proved replay and the plain one on the same runs and prints a small table. Before each
-//! run state and bytes are put back, outside of the time taken. No time is asserted. Two copies of
-//! the same replay have differed by a tenth, by nothing but where their code lies, so a ratio that
-//! near to 1 tells nothing.
+//! run state and bytes are put back, outside of the time taken. No time is asserted. Copies of one
+//! replay, built in two crates, have differed by a tenth and more, so a ratio that near to 1 tells
+//! nothing.
 
 #![deny(missing_docs)]
 
