@@ -4,16 +4,17 @@ use mathlib.Core.List.{List}
 use mathlib.Core.Path.{_≡_, refl}
 use lib.ListN.{length}
 use Rattle.memory.specs.Pages.{spot}
+use Rattle.processor.specs.Prog.{Step}
 use Rattle.processor.specs.State.{inRange}
 use Rattle.processor.specs.declared.answer.Answer.{Answer}
 use Rattle.processor.specs.declared.answer.Answer.the-variants.{Completed, Refused, Faulted}
 use Rattle.processor.specs.declared.state.State.{State}
 use Rattle.replay.specs.Instruction.{instructionAt}
-use Rattle.replay.specs.Exec.{InstructionSet}
-use Rattle.replay.specs.Run.{check, runIf, runFrom, run}
+use Rattle.replay.specs.Exec.{InstructionSet, perform}
+use Rattle.replay.specs.Run.{check, stepIf, step, Run, onward, endsAt, runIf, runFrom, run}
 use Rattle.replay.specs.declared.steps.Tested.{Tested}
 use Rattle.replay.specs.declared.steps.Tested.the-variants.{Passed, Failed}
-use Rattle.claims.specs.Ends.{RefusedBefore, CountTied, AllComplete, CompletedExactly, stepsTaken, AtMostN}
+use Rattle.claims.specs.Ends.{RefusedBefore, CountTied, AllComplete, CompletedExactly, StepIsRun, stepsTaken, AtMostN}
 use Rattle.claims.proofs.Counts.{refused-stops, faulted-stops, counted, ends-at-end}
 pub use Rattle.claims.proofs.Counts.{unchanged}
 
@@ -61,3 +62,27 @@ pub at-most-n : AtMostN
 at-most-n set pages s bytes words e =
     let c = count-tied set pages s bytes words e in
     steps (run set pages s bytes words .answer) (run set pages s bytes words .count) (length words / 4) (c .few) (λ stops. c .at-stop stops .0)
+
+-- ---- one instruction by itself
+
+-- a run of one step ends with that step, whatever its answer
+one-step : (k : ℕ) (now : Step) (answer : Answer) → now .answer ≡ answer
+    → let r : Run = onward answer (record { count = k; answer = Completed; state = now .state; bytes = now .bytes }) (endsAt 0 now) in
+    (now .answer ≡ r .answer) × (now .state ≡ r .state) × (now .bytes ≡ r .bytes)
+one-step k now Completed e = (e, refl, refl)
+one-step k now (Refused refusal) e = (refl, refl, refl)
+one-step k now (Faulted fault) e = (refl, refl, refl)
+
+pub step-is-run : StepIsRun
+unfolding step run runFrom instructionAt
+step-is-run set pages i s bytes = go (check pages (length bytes) (inRange s) 4)
+  where
+    now : Step
+    now = perform set (spot pages (length bytes)) i s bytes
+
+    go : (t : Tested)
+        → let r : Run = runIf t (onward (now .answer) (record { count = 1; answer = Completed; state = now .state; bytes = now .bytes }) (endsAt 0 now)) s bytes in
+        let alone-step : Step = stepIf t now s bytes in
+        (alone-step .answer ≡ r .answer) × (alone-step .state ≡ r .state) × (alone-step .bytes ≡ r .bytes)
+    go Passed = one-step 1 now (now .answer) refl
+    go (Failed refusal) = (refl, refl, refl)

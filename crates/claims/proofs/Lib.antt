@@ -1,6 +1,6 @@
 -- The theorems on whole runs, each of the type of that name in specs/, and what they stand on.
 --
---     EndsProof          refused-before, unchanged, count-tied, completed-exactly, at-most-n (demand 1)
+--     EndsProof          refused-before, unchanged, count-tied, completed-exactly, at-most-n, step-is-run (demand 1)
 --     MorePagesProof     more-pages (demand 3, page lists)
 --     MoreRightsProof    more-rights (demand 3, permission bits)
 --     LedgerProof        ledger

@@ -1,7 +1,7 @@
 -- Demand 1: how a run ends, and what it leaves. Assumes nothing.
 use Prim.Native.Nat.{ℕ, suc, _/_, _≤_, _<_}
 use mathlib.Core.Path.{_≡_}
-use mathlib.Core.List.{List}
+use mathlib.Core.List.{List, [], _∷_}
 use lib.ListN.{length}
 use Rattle.memory.specs.Pages.{Lookup, spot}
 use Rattle.processor.specs.State.{inRange}
@@ -11,7 +11,7 @@ use Rattle.processor.specs.declared.answer.Refusal.{Refusal}
 use Rattle.processor.specs.declared.state.State.{State}
 use Rattle.replay.specs.Instruction.{instructionAt}
 use Rattle.replay.specs.Exec.{InstructionSet, perform}
-use Rattle.replay.specs.Run.{check, Run, run, after}
+use Rattle.replay.specs.Run.{check, step, Run, run, after}
 use Rattle.replay.specs.declared.instruction.Instruction.{Instruction}
 use Rattle.replay.specs.declared.steps.Tested.the-variants.{Passed, Failed}
 
@@ -56,6 +56,17 @@ abbrev pub CompletedExactly : Type 0
 CompletedExactly = (set : InstructionSet) (pages : List ℕ) (s : State) (bytes words : List ℕ)
     → (run set pages s bytes words .answer ≡ Completed → (check pages (length bytes) (inRange s) (length words) ≡ Passed) × AllComplete set pages s bytes words)
     × (check pages (length bytes) (inRange s) (length words) ≡ Passed → AllComplete set pages s bytes words → run set pages s bytes words .answer ≡ Completed)
+
+-- the words of one instruction
+abbrev pub alone : Instruction → List ℕ
+alone i = i .code ∷ i .length ∷ i .a ∷ i .b ∷ []
+
+-- one instruction by itself is a run of one
+abbrev pub StepIsRun : Type 0
+StepIsRun = (set : InstructionSet) (pages : List ℕ) (i : Instruction) (s : State) (bytes : List ℕ)
+    → (step set pages i s bytes .answer ≡ run set pages s bytes (alone i) .answer)
+    × (step set pages i s bytes .state ≡ run set pages s bytes (alone i) .state)
+    × (step set pages i s bytes .bytes ≡ run set pages s bytes (alone i) .bytes)
 
 -- how many steps a run took that has this answer: those that completed, and the one that did not
 abbrev pub stepsTaken : Answer → ℕ → ℕ
