@@ -76,7 +76,9 @@ fn medians(runs: &[Run]) -> [f64; 2] {
 
 fn print_heading() {
     let [(proved, _), (plain, _)] = REPLAYS;
-    println!("The plain replay was built by cargo at level {OPT_LEVEL}, the proved one by `rt staticlib`.");
+    println!(
+        "The plain replay was built by cargo at level {OPT_LEVEL}, the proved one by `rt staticlib`."
+    );
     println!("{RUNS} runs of {INSTRUCTIONS} instructions on 16 pages for each input; both replays");
     println!("complete all of them with the same report, state and bytes.");
     println!(
