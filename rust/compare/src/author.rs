@@ -6,7 +6,7 @@
 
 use crate::case::{Case, REPORT_WORDS, field};
 use crate::damage::{OF_PAGES, OF_STATE, OF_WORDS, Spoiler};
-use crate::operands::propose;
+use crate::operands::{propose, propose_any, propose_token};
 use crate::world::World;
 use driftpocket_reference::dice::Dice;
 use driftpocket_reference::memory::Memory;
@@ -17,6 +17,9 @@ use driftpocket_reference::runs;
 
 /// How often an instruction is dropped before one is taken as it is.
 const ATTEMPTS: usize = 12;
+
+/// The instruction that is taken then: a call of itself.
+const CALL_SELF: [u64; 4] = [7, 5, 0xffff_fffb, 0];
 
 /// Writes random cases.
 #[derive(Clone, Debug)]
@@ -90,7 +93,7 @@ impl Author {
     /// The words of a run, chosen while it runs.
     fn play(&mut self, scene: &mut Scene) -> Vec<u64> {
         let steps = self.steps();
-        let patience = self.dice.one_of(&[1, 3, 10, 40, 400]);
+        let patience = self.dice.one_of(&[6, 30, 200, 1000]);
         let mut words = Vec::new();
         let mut goes_on = true;
         while goes_on && words.len() < steps * runs::WORDS {
@@ -98,20 +101,32 @@ impl Author {
             (instruction, goes_on) = self.choose(scene, patience);
             words.extend(instruction);
         }
-        if !goes_on && self.dice.once_in(2) && words.len() < 4000 {
-            for _ in 0..self.dice.between(1, 3) {
-                words.extend(self.proposal(scene));
-            }
+        if steps > 0 {
+            words.extend(self.closing(scene).as_flattened());
+            words.truncate(runs::MOST_INSTRUCTIONS * runs::WORDS);
         }
         words
+    }
+
+    /// A few instructions after those that were tried, or none.
+    fn closing(&mut self, scene: &Scene) -> Vec<[u64; 4]> {
+        let fields = scene.state.fields();
+        let world = &scene.world;
+        match self.dice.below(6) {
+            0 | 1 => Vec::new(),
+            2 => propose_token(&mut self.dice, world, &fields),
+            _ => (0..self.dice.between(1, 3))
+                .map(|_| propose_any(&mut self.dice, world, &fields))
+                .collect(),
+        }
     }
 
     /// How many instructions a run should have.
     fn steps(&mut self) -> usize {
         let steps = match self.dice.below(1000) {
             0..40 => 0,
-            40..150 => self.dice.between(1, 3),
-            150..900 => self.dice.between(4, 16),
+            40..110 => self.dice.between(1, 3),
+            110..900 => self.dice.between(4, 16),
             900..990 => self.dice.between(17, 50),
             990..999 => self.dice.between(51, 200),
             _ => self.dice.between(1000, 1024),
@@ -121,23 +136,18 @@ impl Author {
 
     /// An instruction, and whether it completes.
     fn choose(&mut self, scene: &mut Scene, patience: u64) -> ([u64; 4], bool) {
+        let fields = scene.state.fields();
+        if scene.world.mode == 0 {
+            return (propose_any(&mut self.dice, &scene.world, &fields), false);
+        }
         for _ in 0..ATTEMPTS {
-            let words = self.proposal(scene);
-            if scene.attempt(words) {
-                return (words, true);
-            }
-            if self.dice.once_in(patience) {
-                return (words, false);
+            let words = propose(&mut self.dice, &scene.world, &fields, scene.last);
+            let completes = scene.attempt(words);
+            if completes || self.dice.once_in(patience) {
+                return (words, completes);
             }
         }
-        let words = self.proposal(scene);
-        (words, scene.attempt(words))
-    }
-
-    /// An instruction that may suit the scene.
-    fn proposal(&mut self, scene: &Scene) -> [u64; 4] {
-        let fields = scene.state.fields();
-        propose(&mut self.dice, &scene.world, &fields, scene.last)
+        (CALL_SELF, scene.attempt(CALL_SELF))
     }
 
     /// Two cases that differ in their pages alone. The second has every page of

@@ -9,26 +9,54 @@ use driftpocket_reference::pages::PAGE_BYTES;
 /// makes some codes more likely than others.
 pub fn propose(dice: &mut Dice, world: &World, state: &[u64], last: u64) -> [u64; 4] {
     let code = choose_code(dice, world, last);
-    let length = dice.between(1, 15);
-    let mut words = match code {
-        1 | 2 => [code, length, 0, count(dice, state, 4 * code)],
-        3 => [code, length, restore_address(dice, world, state), 0],
-        4 => [code, length, 0, 0],
-        5 | 6 => {
-            let (a, b) = write(dice, world, state, 4 * (code - 4));
-            [code, length, a, b]
-        }
-        7 => [code, length, displacement(dice, world, state), 0],
-        _ => [code, length, target(dice, world), 0],
-    };
-    if !world.is_wide() && !dice.once_in(60) {
-        words[2] %= FOUR_GIB;
-        words[3] %= FOUR_GIB;
-    }
+    let mut words = fill(dice, world, state, code);
     if dice.once_in(40) {
         mangle(dice, &mut words);
     }
     words
+}
+
+/// Proposes an instruction of any code, whether it suits or not.
+pub fn propose_any(dice: &mut Dice, world: &World, state: &[u64]) -> [u64; 4] {
+    let code = dice.between(1, 8);
+    let mut words = fill(dice, world, state, code);
+    if dice.once_in(3) {
+        mangle(dice, &mut words);
+    }
+    words
+}
+
+/// Proposes to write a token and to use it at once.
+pub fn propose_token(dice: &mut Dice, world: &World, state: &[u64]) -> Vec<[u64; 4]> {
+    let at = world.near_shadow(dice, 8);
+    let (at, token, using) = if dice.once_in(2) {
+        (at, world.restore_token(dice, at), [3, 4, at, 0])
+    } else {
+        (state[field::SSP], world.previous_token(dice), [4, 4, 0, 0])
+    };
+    if world.is_wide() {
+        return vec![[6, 4, at, token], using];
+    }
+    let upper = world.cut(at.wrapping_add(4));
+    let (low, high) = (token % FOUR_GIB, token / FOUR_GIB);
+    vec![[5, 4, at, low], [5, 4, upper, high], using]
+}
+
+/// Finds length and operands for a code.
+fn fill(dice: &mut Dice, world: &World, state: &[u64], code: u64) -> [u64; 4] {
+    let (mut a, mut b) = match code {
+        1 | 2 => (0, count(dice, state, 4 * code)),
+        3 => (restore_address(dice, world, state), 0),
+        4 => (0, 0),
+        5 | 6 => write(dice, world, state, 4 * (code - 4)),
+        7 => (displacement(dice, world, state), 0),
+        _ => (target(dice, world), 0),
+    };
+    if !world.is_wide() && !dice.once_in(60) {
+        a %= FOUR_GIB;
+        b %= FOUR_GIB;
+    }
+    [code, dice.between(1, 15), a, b]
 }
 
 /// A code. Those that can't complete are chosen seldom outside mode 0.

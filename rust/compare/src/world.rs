@@ -55,12 +55,12 @@ pub struct World {
 impl World {
     /// A world, and a case in it that has no instruction yet.
     pub fn make(dice: &mut Dice) -> (World, Case) {
-        let mode = dice.one_of(&[0, 1, 1, 1, 1, 1, 2, 2, 2, 2, 2, 2]);
+        let mode = dice.one_of(&[0, 1, 1, 1, 1, 2, 2, 2, 2, 2]);
         let cpl = dice.one_of(&[0, 0, 1, 1, 2, 2, 3, 3, 3, 3]);
         let mut world = World {
             mode,
             cpl,
-            enabled: !dice.once_in(7),
+            enabled: !dice.once_in(5),
             limit: world_limit(dice),
             shadow: Vec::new(),
             ordinary: Vec::new(),
