@@ -37,6 +37,7 @@ pub fn rows() -> Vec<Row> {
         empty_lists(),
         reports(),
         real_mode(),
+        carry(),
     ]
     .concat()
 }
@@ -295,4 +296,28 @@ fn real_mode() -> Vec<Row> {
         rows.push(Row::ends(name, case(code, 0, 0), Answer::refusal(6)));
     }
     rows
+}
+
+/// SAVEPREVSSP with the carry flag: the token is popped before the flag counts.
+fn carry() -> Vec<Row> {
+    let case = |mode, ssp| {
+        plain(&[[4, 4, 0, 0]])
+            .with(field::MODE, mode)
+            .with(field::FLAGS, 1)
+            .with(field::SSP, ssp)
+    };
+    let token = |mode, ssp, gap| {
+        let there = case(mode, ssp).holding::<8>(ssp, 0x1ff2 + mode / 2);
+        there.holding::<4>(ssp + 8, gap)
+    };
+    let at_end = case(1, 0x2ff8).holding::<8>(0x2ff8, 0x1ff2);
+    vec![
+        Row::ends("no token", case(2, 0x3000), Answer::page_fault(0x3000)),
+        Row::ends("mode 2", token(2, 0x2fe0, 0), Answer::fault(GP)),
+        Row::ends("gap not zero", token(1, 0x2fe0, 1 << 31), Answer::fault(GP)),
+        Row::ends("no gap", at_end, Answer::page_fault(0x3000)),
+        Row::completes("gap", token(1, 0x2fe0, 0))
+            .field(field::SSP, 0x2fec)
+            .bytes::<8>(0x1fe8, 0x1ff0),
+    ]
 }

@@ -25,7 +25,7 @@ fn worked_cases() {
 
 #[test]
 fn edges_of_lists_lengths_pointers_and_targets() {
-    check(&edges::rows(), 68);
+    check(&edges::rows(), 73);
 }
 
 #[test]
