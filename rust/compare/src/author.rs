@@ -4,12 +4,13 @@
 //! the next one is chosen for what it left; what does not complete is mostly
 //! dropped, and now and then written down as the end of the run.
 
-use crate::case::{Case, REPORT_WORDS, field};
+use crate::case::{Case, FOUR_GIB, REPORT_WORDS, field};
 use crate::damage::{OF_PAGES, OF_STATE, OF_WORDS, Spoiler};
 use crate::operands::{propose, propose_any, propose_token};
 use crate::world::World;
+use driftpocket_reference::address::{Width, is_canonical};
 use driftpocket_reference::dice::Dice;
-use driftpocket_reference::memory::Memory;
+use driftpocket_reference::memory::{Access, Memory, Size};
 use driftpocket_reference::operations::{Outcome, step};
 use driftpocket_reference::pages::{MOST_PAGES, PAGE_BYTES};
 use driftpocket_reference::processor::State;
@@ -179,11 +180,10 @@ impl Author {
             missed,
             beside.wrapping_add(PAGE_BYTES),
             beside.wrapping_sub(PAGE_BYTES),
-            beside ^ (1 << 32),
+            beside ^ FOUR_GIB,
         ]);
         let listed = large.place(page).is_some();
-        let canonical = driftpocket_reference::address::is_canonical(page);
-        if !listed && canonical && large.pages.len() < MOST_PAGES {
+        if !listed && is_canonical(page) && large.pages.len() < MOST_PAGES {
             large.add_page(page + self.dice.between(1, 3), self.dice.any() as u8);
         }
     }
@@ -233,8 +233,6 @@ impl Scene {
 
     /// The eight bytes at an address.
     fn read(&self, first: u64) -> u64 {
-        use driftpocket_reference::address::Width;
-        use driftpocket_reference::memory::{Access, Size};
         let access = Access {
             kind: self.state.shadow_kind(),
             width: Width::Eight,

@@ -15,6 +15,9 @@ pub const REPORT_WORDS: usize = 5;
 /// How many bytes a page has, as a length.
 pub const PAGE: usize = PAGE_BYTES as usize;
 
+/// The first number that has more than 32 bits.
+pub const FOUR_GIB: u64 = 1 << 32;
+
 /// The places of the fields in a state.
 pub mod field {
     /// Mode.
@@ -37,6 +40,21 @@ pub mod field {
     pub const FLAGS: usize = 8;
     /// Code limit.
     pub const LIMIT: usize = 9;
+}
+
+/// The register that rules shadow stacks at the CPL of a state: U_CET at CPL 3,
+/// S_CET below. A state that has no ten fields has none.
+pub fn own_controls(state: &[u64]) -> Option<u64> {
+    let state: &[u64; 10] = state.try_into().ok()?;
+    Some(match state[field::CPL] {
+        3 => state[field::USER],
+        _ => state[field::SUPERVISOR],
+    })
+}
+
+/// Whether shadow stacks are enabled in a state.
+pub fn is_enabled(state: &[u64]) -> bool {
+    own_controls(state).is_some_and(|own| state[field::CET] == 1 && own % 2 == 1)
 }
 
 /// All that a run is given.
@@ -99,10 +117,26 @@ impl Case {
         }
     }
 
+    /// The words of an instruction, counted from 0.
+    pub fn instruction(&self, number: u64) -> Option<&[u64]> {
+        let number = usize::try_from(number).ok()?;
+        self.words.chunks(runs::WORDS).nth(number)
+    }
+
     /// The code of an instruction, counted from 0.
     pub fn code(&self, instruction: u64) -> Option<u64> {
-        let first = usize::try_from(instruction).ok()?.checked_mul(runs::WORDS);
-        self.words.get(first?).copied()
+        self.instruction(instruction)?.first().copied()
+    }
+
+    /// What is given, without the bytes, and only one of the instructions.
+    pub fn describe(&self, instruction: u64) -> String {
+        let words = self.instruction(instruction).unwrap_or_default();
+        format!(
+            "state {:x?}, pages {:x?}, {} words, instruction {instruction} is {words:x?}; ",
+            self.state,
+            self.pages,
+            self.words.len()
+        )
     }
 
     /// The same for the second program.

@@ -1,12 +1,9 @@
 //! Ways to spoil an input so that it is refused before any step.
 
-use crate::case::{Case, PAGE, field};
+use crate::case::{Case, FOUR_GIB, PAGE, field};
 use driftpocket_reference::address::{ABOVE_HOLE, HOLE};
 use driftpocket_reference::pages::{MOST_PAGES, PAGE_BYTES};
 use driftpocket_reference::runs::{MOST_INSTRUCTIONS, WORDS};
-
-/// The first number that has more than 32 bits.
-const FOUR_GIB: u64 = 1 << 32;
 
 /// A way to spoil an input.
 #[derive(Clone, Copy, Debug)]
@@ -32,6 +29,7 @@ const fn by(refusal: u64, name: &'static str, spoil: fn(&mut Case)) -> Spoiler {
 pub const OF_PAGES: &[Spoiler] = &[
     by(1, "17 entries", |case| add_up_to(case, MOST_PAGES + 1)),
     by(1, "18 entries", |case| add_up_to(case, MOST_PAGES + 2)),
+    by(1, "300 entries", |case| case.pages.resize(300, 0x1001)),
     by(1, "one byte more", |case| case.bytes.push(0)),
     by(1, "one byte fewer", |case| {
         if case.bytes.pop().is_none() {

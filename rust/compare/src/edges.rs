@@ -2,11 +2,8 @@
 //! just does not.
 
 use crate::answer::{Answer, GP, SS, UD};
-use crate::case::{Case, REPORT_WORDS, field};
+use crate::case::{Case, FOUR_GIB, REPORT_WORDS, field};
 use crate::rows::{Row, plain};
-
-/// The first number that has more than 32 bits.
-const FOUR_GIB: u64 = 1 << 32;
 
 /// The code limit of most calls.
 const LIMIT: u64 = 0x40_1000;

@@ -1,7 +1,7 @@
 //! Instructions that suit a state, or just don't.
 
-use crate::case::field;
-use crate::world::{FOUR_GIB, LANDMARKS, World};
+use crate::case::{FOUR_GIB, field};
+use crate::world::{LANDMARKS, World};
 use driftpocket_reference::dice::Dice;
 use driftpocket_reference::pages::PAGE_BYTES;
 

@@ -4,8 +4,9 @@
 //! say here.
 
 use crate::answer::{Answer, PF, UD};
-use crate::case::{Case, PAGE, Part, Seen, field, observe};
+use crate::case::{Case, PAGE, Part, Seen, field, is_enabled, observe, own_controls};
 use crate::difference::explain;
+use driftpocket_reference::processor::FIELDS;
 use driftpocket_reference::runs::WORDS;
 
 /// How a first run ended, as far as a property asks.
@@ -47,7 +48,7 @@ fn on_old_pages(small: &Case, large: &Case, seen: Seen) -> Result<Seen, String> 
 /// The count of a run, or an error if there were not so many instructions.
 fn count(case: &Case, seen: &Seen) -> Result<u64, String> {
     if seen.count() > (case.words.len() / WORDS) as u64 {
-        return Err(format!("a count of {}", seen.count()));
+        return Err(format!("a count of {} in a shorter run", seen.count()));
     }
     Ok(seen.count())
 }
@@ -97,16 +98,13 @@ fn with_rights(state: &[u64], bits: [u64; 2]) -> Vec<u64> {
 /// Whether a run ended because a WRSS was not permitted: outside mode 0, code 5
 /// or 6 gave #UD while enabled, with the permission of the level clear.
 fn was_not_permitted(case: &Case, seen: &Seen) -> bool {
-    let state = &seen.state;
     let write = matches!(case.code(seen.count()), Some(5 | 6));
-    if seen.answer() != Some(Answer::fault(UD)) || !write {
-        return false;
-    }
-    let own = match state[field::CPL] {
-        3 => state[field::USER],
-        _ => state[field::SUPERVISOR],
-    };
-    state[field::MODE] != 0 && state[field::CET] == 1 && own % 4 == 1
+    let clear = own_controls(&seen.state).is_some_and(|own| own & 2 == 0);
+    seen.answer() == Some(Answer::fault(UD))
+        && write
+        && clear
+        && seen.state[field::MODE] != 0
+        && is_enabled(&seen.state)
 }
 
 /// More rights alter no answer but that of a WRSS which is not permitted.
@@ -139,17 +137,15 @@ pub fn more_rights(part: Part, case: &Case, bits: [u64; 2]) -> Result<Kind, Stri
 /// pushes, told by its words and by the state that it starts from.
 fn popped(words: &[u64], state: &[u64]) -> i128 {
     let wide = state[field::MODE] == 2;
-    let own = match state[field::CPL] {
-        3 => state[field::USER],
-        _ => state[field::SUPERVISOR],
-    };
-    let enabled = state[field::CET] == 1 && own % 2 == 1;
     let gap = state[field::FLAGS] % 2 == 1 && !wide;
     match words[0] {
         1 => 4 * i128::from(words[3] % 256),
         2 => 8 * i128::from(words[3] % 256),
-        4 => 8 + if gap { 4 } else { 0 },
-        7 | 8 if enabled => -(if wide { 8 } else { 4 }),
+        4 if gap => 12,
+        4 => 8,
+        7 | 8 if !is_enabled(state) => 0,
+        7 | 8 if wide => -8,
+        7 | 8 => -4,
         _ => 0,
     }
 }
@@ -159,6 +155,9 @@ fn popped(words: &[u64], state: &[u64]) -> i128 {
 pub fn ledger(part: Part, case: &Case) -> Result<u64, String> {
     let whole = observe(part, case);
     let done = count(case, &whole)?;
+    if done > 0 && case.state.len() != FIELDS {
+        return Err("a step without a state".to_string());
+    }
     let mut single = case.first(0);
     let mut sum = 0;
     let mut switched = false;

@@ -1,12 +1,9 @@
 //! Every refusal, and which of several comes.
 
 use crate::answer::{Answer, GP, PF, UD};
-use crate::case::field;
+use crate::case::{FOUR_GIB, field};
 use crate::damage;
 use crate::rows::{Row, plain};
-
-/// The first number that has more than 32 bits.
-const FOUR_GIB: u64 = 1 << 32;
 
 /// A good instruction of every code, with its operands.
 const GOOD: [[u64; 4]; 8] = [

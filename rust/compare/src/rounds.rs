@@ -49,7 +49,9 @@ fn compare_one(part: Part, seed: u64, number: u64, tally: &mut Tally) -> Result<
     let wanted = foretell_from(&case, &run);
     let seen = observe(part, &case);
     if let Some(text) = explain(("second program", &wanted), ("under test", &seen)) {
-        return Err(located(seed, number, &text));
+        let stop = wanted.count().min(seen.count());
+        let given = case.describe(stop);
+        return Err(located(seed, number, &format!("{given}{text}")));
     }
     tally.table.count(&case, &seen);
     if let Some(&mode) = case.state.get(field::MODE) {
@@ -72,7 +74,7 @@ pub fn compare(part: Part, seed: u64, numbers: Range<u64>) -> Result<Tally, Stri
 
 /// Says of a text where it comes from.
 fn located(seed: u64, number: u64, text: &str) -> String {
-    format!("seed {seed}, run {number}, {text}")
+    format!("seed {seed}, run {number}: {text}")
 }
 
 /// How often first runs ended in which way.

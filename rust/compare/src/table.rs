@@ -7,7 +7,7 @@
 //! either can be had at any level.
 
 use crate::answer::{CP, GP, PF, SS, UD};
-use crate::case::{Case, Seen, field};
+use crate::case::{Case, Seen, field, is_enabled, own_controls};
 use std::collections::BTreeMap;
 use std::fmt::{self, Write};
 
@@ -160,16 +160,11 @@ impl Source {
 impl Column {
     /// The column of a state, in its range or not.
     fn of(state: &[u64]) -> Option<Column> {
-        let state: &[u64; 10] = state.try_into().ok()?;
+        own_controls(state)?;
         let (mode, cpl, cet) = (state[field::MODE], state[field::CPL], state[field::CET]);
-        let own = if cpl == 3 {
-            field::USER
-        } else {
-            field::SUPERVISOR
-        };
         (mode < 3 && cpl < 4 && cet < 2).then(|| Column {
             mode,
-            enabled: cet == 1 && state[own] % 2 == 1,
+            enabled: is_enabled(state),
             cpl,
         })
     }
@@ -407,5 +402,98 @@ impl fmt::Display for Cell {
             }
             None => write!(text, ", state without a column"),
         }
+    }
+}
+
+#[cfg(test)]
+mod tests {
+    use super::*;
+    use crate::case::foretell;
+    use crate::rows::plain;
+
+    fn cell(mode: u64, enabled: bool, code: u64, class: Class) -> Cell {
+        let column = Column {
+            mode,
+            enabled,
+            cpl: 3,
+        };
+        Cell {
+            column: Some(column),
+            source: Source::Code(code),
+            class,
+        }
+    }
+
+    /// The answers that a code can give in a mode.
+    fn answers(mode: u64, enabled: bool, code: u64) -> Vec<Class> {
+        let can_come = |class: &Class| cell(mode, enabled, code, *class).forbidden().is_none();
+        CLASSES.into_iter().filter(can_come).collect()
+    }
+
+    #[test]
+    fn answers_of_codes() {
+        use Class::{Completed, Faulted, Refused};
+        let form = Refused(6);
+        let [ud, ss, gp, pf, cp] = [UD, SS, GP, PF, CP].map(Faulted);
+        for enabled in [false, true] {
+            assert_eq!(answers(0, enabled, 7), [form]);
+            assert_eq!(answers(1, enabled, 6), [form]);
+            assert_eq!(answers(0, enabled, 6), [form, ud]);
+            for mode in [1, 2] {
+                assert_eq!(answers(mode, enabled, 8), [Completed, form, ss, gp, pf]);
+            }
+        }
+        assert_eq!(answers(1, false, 2), [form]);
+        assert_eq!(answers(2, false, 2), [form, ud]);
+        assert_eq!(answers(1, true, 1), [Completed, form, pf]);
+        assert_eq!(answers(2, true, 1), [Completed, form, gp, pf]);
+        assert_eq!(answers(1, true, 3), [Completed, form, gp, pf, cp]);
+        assert_eq!(answers(2, true, 4), [Completed, form, gp, pf]);
+        assert_eq!(answers(2, true, 6), [Completed, form, ud, gp, pf]);
+    }
+
+    #[test]
+    fn each_level_has_the_same_open_cells() {
+        let open: Vec<Cell> = Cell::open().collect();
+        let at = |cpl| {
+            let here = |cell: &&Cell| cell.column.is_some_and(|column| column.cpl == cpl);
+            open.iter().filter(here).count()
+        };
+        assert!((1..4).all(|cpl| at(cpl) == at(0)));
+        // Refusals 1 to 5 need no column.
+        assert_eq!(open.len(), 4 * at(0) + 5);
+    }
+
+    #[test]
+    fn completed_instructions_and_the_end_are_counted() {
+        let case = plain(&[[7, 5, 0x10, 0], [1, 3, 0, 1], [3, 3, 4, 0], [4, 4, 0, 0]]);
+        let mut table = Table::default();
+        table.count(&case, &foretell(&case));
+        let hit: Vec<Cell> = table.hits.keys().copied().collect();
+        let wanted = [
+            cell(2, true, 1, Class::Completed),
+            cell(2, true, 3, Class::Faulted(GP)),
+            cell(2, true, 7, Class::Completed),
+        ];
+        assert_eq!(hit, wanted);
+        let open = Cell::open().count();
+        assert_eq!(table.complaints().len(), open - 3);
+    }
+
+    #[test]
+    fn what_can_not_come_is_complained_of() {
+        let mut table = Table::default();
+        for open in Cell::open() {
+            table.hit(open.column, open.source, open.class);
+        }
+        assert_eq!(table.complaints(), [""; 0]);
+        let wrong = cell(1, true, 2, Class::Completed);
+        table.hit(wrong.column, wrong.source, wrong.class);
+        let strange = cell(2, true, 2, Class::Faulted(99));
+        table.hit(strange.column, strange.source, strange.class);
+        let complaints = table.complaints();
+        assert_eq!(complaints.len(), 2);
+        let words = "hit, though mode 1 refuses codes 2 and 6: ";
+        assert!(complaints[0].starts_with(words), "{complaints:?}");
     }
 }

@@ -31,6 +31,7 @@ pub fn rows() -> Vec<Row> {
     [
         increments(),
         switches(),
+        switches_with_a_hole(),
         refusing_switches(),
         writes(),
         calls(),
@@ -57,42 +58,41 @@ fn increments() -> Vec<Row> {
     ]
 }
 
-/// P4 to P6.
+/// P4 and P5.
 fn switches() -> Vec<Row> {
-    let back = [3, 4, 0x1fe8, 0];
-    let there = |row: Row, token| row.bytes::<8>(0x2ff0, token);
-    let with_hole = |row: Row| {
-        there(row, 0x1ff7)
+    let there = |row: Row| row.bytes::<8>(0x2ff0, 0x1ff3);
+    let restored = with_token(0x1ff0, &[RESTORE]);
+    let saved = with_token(0x1ff0, &[RESTORE, SAVE]);
+    vec![
+        there(Row::completes("P4", restored)).field(field::SSP, 0x2ff0),
+        there(Row::completes("P5", saved))
+            .bytes::<8>(0x1fe8, 0x1ff1)
+            .field(field::SSP, 0x2ff8),
+    ]
+}
+
+/// P6.
+fn switches_with_a_hole() -> Vec<Row> {
+    let all = [RESTORE, SAVE, [3, 4, 0x1fe8, 0], SAVE];
+    let case = |count| with_token(0x1ff4, &all[..count]);
+    let there = |row: Row| {
+        row.bytes::<8>(0x2ff0, 0x1ff7)
             .bytes::<4>(0x1ff0, 0)
             .bytes::<8>(0x1fe8, 0x1ff5)
             .field(field::SSP, 0x2ff8)
     };
-    let gone_back = |row: Row| {
-        with_hole(row)
+    let back = |row: Row| {
+        there(row)
             .bytes::<8>(0x1fe8, 0x2ffb)
             .field(field::SSP, 0x1fe8)
             .field(field::FLAGS, 1)
     };
     vec![
-        there(Row::completes("P4", with_token(0x1ff0, &[RESTORE])), 0x1ff3)
-            .field(field::SSP, 0x2ff0),
-        there(
-            Row::completes("P5", with_token(0x1ff0, &[RESTORE, SAVE])),
-            0x1ff3,
-        )
-        .bytes::<8>(0x1fe8, 0x1ff1)
-        .field(field::SSP, 0x2ff8),
-        with_hole(Row::completes(
-            "P6, with a hole",
-            with_token(0x1ff4, &[RESTORE, SAVE]),
-        )),
-        gone_back(Row::completes(
-            "P6, and back",
-            with_token(0x1ff4, &[RESTORE, SAVE, back]),
-        )),
-        gone_back(Row::stops(
+        there(Row::completes("P6, there", case(2))),
+        back(Row::completes("P6, and back", case(3))),
+        back(Row::stops(
             "P6, and once more",
-            with_token(0x1ff4, &[RESTORE, SAVE, back, SAVE]),
+            case(4),
             3,
             Answer::fault(GP),
         )),

@@ -1,12 +1,9 @@
 //! Pages, states and tokens for a random run, mostly close to an edge.
 
-use crate::case::{Case, PAGE, REPORT_WORDS};
+use crate::case::{Case, FOUR_GIB, PAGE, REPORT_WORDS, field};
 use driftpocket_reference::address::{ABOVE_HOLE, HOLE, LAST_PAGE, is_canonical};
 use driftpocket_reference::dice::Dice;
 use driftpocket_reference::pages::{MOST_PAGES, PAGE_BYTES};
-
-/// The first number that has more than 32 bits.
-pub const FOUR_GIB: u64 = 1 << 32;
 
 /// Page addresses with an edge of 64-bit mode close by.
 const WIDE_HOMES: [u64; 8] = [
@@ -312,7 +309,7 @@ impl World {
 
     /// Sets a token of a previous pointer where SSP is, now and then.
     fn plant_at_top(&self, dice: &mut Dice, case: &mut Case) {
-        let ssp = case.state[crate::case::field::SSP];
+        let ssp = case.state[field::SSP];
         if dice.once_in(2) {
             set(case, ssp, self.previous_token(dice));
             if dice.once_in(2) {

@@ -30,7 +30,7 @@ fn a_difference_can_be_rerun_and_shows_only_what_differs() {
     let part = wrong::named("forgets the error code");
     let text = rounds::compare(part, 5, 0..RUNS).unwrap_err();
     let number = text.strip_prefix("seed 5, run ").unwrap();
-    let number: u64 = number.split(',').next().unwrap().parse().unwrap();
+    let number: u64 = number.split(':').next().unwrap().parse().unwrap();
     assert_eq!(
         rounds::compare(part, 5, number..number + 1).unwrap_err(),
         text

@@ -150,7 +150,8 @@ impl Stage {
         let state = input.state.try_into().ok().and_then(State::read);
         let state = state.ok_or(5_u64)?;
         let most = MOST_INSTRUCTIONS * WORDS;
-        if input.words.len() % WORDS != 0 || input.words.len() > most {
+        let words = input.words.len();
+        if !words.is_multiple_of(WORDS) || words > most {
             return Err(7);
         }
         Ok(Stage { state, memory })
