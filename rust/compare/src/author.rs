@@ -15,6 +15,7 @@ use driftpocket_reference::operations::{Outcome, step};
 use driftpocket_reference::pages::{MOST_PAGES, PAGE_BYTES};
 use driftpocket_reference::processor::State;
 use driftpocket_reference::runs;
+use std::collections::BTreeSet;
 
 /// How often an instruction is dropped before one is taken as it is.
 const ATTEMPTS: usize = 12;
@@ -84,10 +85,16 @@ impl Author {
         case
     }
 
-    /// Spoils a case in one or two ways.
+    /// Spoils a case in one or two ways. Each refusal that there is a way to is
+    /// as likely as the others.
     fn spoil(&mut self, case: &mut Case, ways: &[Spoiler]) {
+        let refusals: BTreeSet<u64> = ways.iter().map(|way| way.refusal).collect();
+        let refusals = Vec::from_iter(refusals);
         for _ in 0..self.dice.between(1, 2) {
-            (self.dice.one_of(ways).spoil)(case);
+            let refusal = self.dice.one_of(&refusals);
+            let right = |way: &&Spoiler| way.refusal == refusal;
+            let ways: Vec<&Spoiler> = ways.iter().filter(right).collect();
+            (self.dice.one_of(&ways).spoil)(case);
         }
     }
 
@@ -113,9 +120,9 @@ impl Author {
     fn closing(&mut self, scene: &Scene) -> Vec<[u64; 4]> {
         let fields = scene.state.fields();
         let world = &scene.world;
-        match self.dice.below(6) {
-            0 | 1 => Vec::new(),
-            2 => propose_token(&mut self.dice, world, &fields),
+        match self.dice.below(8) {
+            0..2 => Vec::new(),
+            2..5 => propose_token(&mut self.dice, world, &fields),
             _ => (0..self.dice.between(1, 3))
                 .map(|_| propose_any(&mut self.dice, world, &fields))
                 .collect(),

@@ -307,12 +307,17 @@ fn carry() -> Vec<Row> {
         let there = case(mode, ssp).holding::<8>(ssp, 0x1ff2 + mode / 2);
         there.holding::<4>(ssp + 8, gap)
     };
-    let at_end = case(1, 0x2ff8).holding::<8>(0x2ff8, 0x1ff2);
+    let at_end = |token| case(1, 0x2ff8).holding::<8>(0x2ff8, token);
     vec![
         Row::ends("no token", case(2, 0x3000), Answer::page_fault(0x3000)),
         Row::ends("mode 2", token(2, 0x2fe0, 0), Answer::fault(GP)),
         Row::ends("gap not zero", token(1, 0x2fe0, 1 << 31), Answer::fault(GP)),
-        Row::ends("no gap", at_end, Answer::page_fault(0x3000)),
+        Row::ends("no gap", at_end(0x1ff2), Answer::page_fault(0x3000)),
+        Row::ends(
+            "no gap, no mark",
+            at_end(0x1ff0),
+            Answer::page_fault(0x3000),
+        ),
         Row::completes("gap", token(1, 0x2fe0, 0))
             .field(field::SSP, 0x2fec)
             .bytes::<8>(0x1fe8, 0x1ff0),

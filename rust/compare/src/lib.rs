@@ -12,6 +12,7 @@
 //! * [`rows`]: cases with what must come of them, written out by hand.
 //! * [`worked`]: the thirteen worked cases of the rules.
 //! * [`edges`]: limits of lists, lengths, pointers and targets.
+//! * [`tokens`]: tokens that are just right and just wrong.
 //! * [`refusals`]: every refusal, and their order.
 //! * [`world`]: pages, states and tokens for a random run.
 //! * [`operands`]: instructions that suit a state, or just don't.
@@ -37,5 +38,6 @@ pub mod refusals;
 pub mod rounds;
 pub mod rows;
 pub mod table;
+pub mod tokens;
 pub mod worked;
 pub mod world;

@@ -237,13 +237,15 @@ impl World {
 
     /// A shadow stack pointer.
     fn choose_ssp(&self, dice: &mut Dice) -> u64 {
-        if dice.once_in(6) {
-            return self.near_shadow(dice, 4);
-        }
         let page = dice.one_of(&self.shadow);
-        let steps = dice.between(4, PAGE_BYTES / 8 - 8);
-        let half = dice.one_of(&[0, 0, 4]);
-        self.cut(page + 8 * steps + half)
+        match dice.below(12) {
+            0 | 1 => self.near_shadow(dice, 4),
+            2 => page + (PAGE_BYTES - 8),
+            _ => {
+                let steps = dice.between(4, PAGE_BYTES / 8 - 8);
+                page + 8 * steps + dice.one_of(&[0, 0, 4])
+            }
+        }
     }
 
     /// An address on or close to a page of the shadow stacks, a multiple of
@@ -272,7 +274,8 @@ impl World {
             1 => good ^ 2,
             2 => good.wrapping_add(8),
             3 => good.wrapping_sub(8),
-            4 => good ^ (1 << dice.between(32, 63)),
+            4 | 5 => good ^ (1 << dice.between(32, 63)),
+            6 => self.cut(good),
             _ => good,
         }
     }

