@@ -23,6 +23,10 @@ const ATTEMPTS: usize = 12;
 /// The instruction that is taken then: a call of itself.
 const CALL_SELF: [u64; 4] = [7, 5, 0xffff_fffb, 0];
 
+/// Runs that should be longer than this get as many instructions as there may
+/// be, whether they are met or not.
+const LONG: usize = 200;
+
 /// Writes random cases.
 #[derive(Clone, Debug)]
 pub struct Author {
@@ -50,7 +54,7 @@ impl Author {
     /// Any case, spoiled or not.
     pub fn any_case(&mut self) -> Case {
         let mut case = self.good_case();
-        if self.dice.once_in(6) {
+        if self.dice.once_in(5) {
             self.spoil(&mut case, &[OF_PAGES, OF_STATE, OF_WORDS].concat());
             self.dice.shuffle(&mut case.pages);
         }
@@ -109,9 +113,13 @@ impl Author {
             (instruction, goes_on) = self.choose(scene, patience);
             words.extend(instruction);
         }
+        let most = runs::MOST_INSTRUCTIONS * runs::WORDS;
         if steps > 0 {
             words.extend(self.closing(scene).as_flattened());
-            words.truncate(runs::MOST_INSTRUCTIONS * runs::WORDS);
+            words.truncate(most);
+        }
+        if steps > LONG {
+            words.resize(most, 1);
         }
         words
     }
@@ -136,7 +144,7 @@ impl Author {
             40..110 => self.dice.between(1, 3),
             110..900 => self.dice.between(4, 16),
             900..990 => self.dice.between(17, 50),
-            990..999 => self.dice.between(51, 200),
+            990..999 => self.dice.between(51, LONG as u64),
             _ => self.dice.between(1000, 1024),
         };
         steps as usize

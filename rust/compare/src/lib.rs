@@ -5,7 +5,7 @@
 //! test as an argument, so that a part that is wrong on purpose can be put in
 //! its place to see whether it is noticed.
 //!
-//! * [`case`](mod@case): what a run is given, and what is seen of it afterwards.
+//! * [`case`]: what a run is given, and what is seen of it afterwards.
 //! * [`answer`]: the ways in which a run can end, as numbers.
 //! * [`difference`]: two sightings side by side, and only what differs.
 //! * [`damage`]: ways to spoil an input so that it is refused.

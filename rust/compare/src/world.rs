@@ -57,7 +57,7 @@ impl World {
         let mut world = World {
             mode,
             cpl,
-            enabled: !dice.once_in(5),
+            enabled: !dice.once_in(4),
             limit: world_limit(dice),
             shadow: Vec::new(),
             ordinary: Vec::new(),
