@@ -35,5 +35,5 @@ fn tokens_just_right_and_just_wrong() {
 
 #[test]
 fn refusals_and_their_order() {
-    check(&refusals::rows(), 1850);
+    check(&refusals::rows(), 1909);
 }
