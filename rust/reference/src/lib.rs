@@ -16,6 +16,7 @@
 //! * [`processor`]: the ten fields of a state, refusal 5, what follows from it.
 //! * [`fault`]: why an operation can't be done, and what is reported of it.
 //! * [`operations`]: reading an instruction, refusal 6, the five operations.
+//! * [`runs`]: whole runs, all refusals in their order, any input whatever.
 //! * [`script`]: scripts of commands, from bytes in to bytes out.
 //! * [`dice`]: numbers that look random.
 //! * [`random`]: memory scripts made by a seeded generator.
@@ -33,5 +34,6 @@ pub mod pages;
 pub mod processor;
 pub mod random;
 pub mod random_operations;
+pub mod runs;
 pub mod script;
 pub mod transaction;

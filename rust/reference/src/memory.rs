@@ -118,6 +118,15 @@ impl Memory {
             .collect()
     }
 
+    /// All lent bytes in their order, as they are now.
+    pub fn into_bytes(self) -> Vec<u8> {
+        let mut bytes = self.lent;
+        for (place, byte) in self.stored {
+            bytes[index(place)] = byte;
+        }
+        bytes
+    }
+
     /// Sets the eight bytes from an address up, its lowest byte first, on pages
     /// of any kind. Addresses start again at 2^64. If one of them is on no
     /// listed page, the first such comes back and nothing is set.
@@ -145,7 +154,7 @@ impl Memory {
 
     /// The byte at a place, as it was lent.
     fn lent_byte(&self, place: u64) -> u8 {
-        self.lent[usize::try_from(place).expect("a place is an index of the lent bytes")]
+        self.lent[index(place)]
     }
 
     /// The places of all bytes of an access, or what stands against it.
@@ -168,6 +177,11 @@ impl Memory {
             Some(spot) => Ok(spot.place),
         }
     }
+}
+
+/// A place as an index of the lent bytes.
+fn index(place: u64) -> usize {
+    usize::try_from(place).expect("a place is an index of the lent bytes")
 }
 
 #[cfg(test)]

@@ -1,0 +1,100 @@
+//! A part that is wrong in one thing is noticed.
+
+use driftpocket_compare::rows::check_all;
+use driftpocket_compare::{edges, refusals, rounds, tokens, worked};
+
+mod wrong;
+
+/// How many random runs may pass before a wrong part is noticed.
+const RUNS: u64 = 20_000;
+
+#[test]
+fn random_runs_notice_every_wrong_part() {
+    for (name, part) in wrong::ALL {
+        let Err(text) = rounds::compare(*part, 77, 0..RUNS) else {
+            panic!("not noticed: {name}");
+        };
+        assert!(text.starts_with("seed 77, run "), "{text}");
+        assert!(text.contains("what differs (second program | under test):"));
+    }
+}
+
+#[test]
+fn what_is_not_spoiled_passes() {
+    let tally = rounds::compare(wrong::UNSPOILED, 77, 0..RUNS / 10);
+    assert_eq!(tally.map(|tally| tally.runs), Ok(RUNS / 10));
+}
+
+#[test]
+fn a_difference_can_be_rerun_and_shows_only_what_differs() {
+    let part = wrong::named("forgets the error code");
+    let text = rounds::compare(part, 5, 0..RUNS).unwrap_err();
+    let number = text.strip_prefix("seed 5, run ").unwrap();
+    let number: u64 = number.split(':').next().unwrap().parse().unwrap();
+    assert_eq!(
+        rounds::compare(part, 5, number..number + 1).unwrap_err(),
+        text
+    );
+    assert!(text.ends_with("):\n  error code: 4 | 0\n"), "{text}");
+}
+
+#[test]
+fn fixed_cases_notice_every_wrong_part() {
+    let rows = [
+        worked::rows(),
+        edges::rows(),
+        tokens::rows(),
+        refusals::rows(),
+    ]
+    .concat();
+    for (name, part) in wrong::ALL {
+        assert!(check_all(*part, &rows).is_err(), "not noticed: {name}");
+    }
+}
+
+#[test]
+fn the_worked_cases_alone_notice_the_poor_parts() {
+    for name in [
+        "always page fault",
+        "refuses everything",
+        "moves nothing",
+        "idles after one",
+        "counts one too many",
+    ] {
+        assert!(
+            check_all(wrong::named(name), &worked::rows()).is_err(),
+            "{name}"
+        );
+    }
+}
+
+#[test]
+fn pairs_notice_what_depends_on_pages() {
+    for name in [
+        "sorts the pages",
+        "counts the pages",
+        "touches the last page",
+    ] {
+        let found = rounds::more_memory(wrong::named(name), 78, 0..RUNS);
+        assert!(found.is_err(), "{name}");
+    }
+}
+
+#[test]
+fn pairs_notice_what_depends_on_permissions() {
+    let found = rounds::more_rights(wrong::named("looks at permissions"), 79, 0..RUNS);
+    assert!(found.is_err());
+}
+
+#[test]
+fn the_ledger_and_single_steps_notice_wrong_sums_and_idling() {
+    for (name, words) in [
+        ("drops one element fewer", "the ledger says"),
+        ("uses nine bits of the count", "the ledger says"),
+        ("idles after one", "one by one"),
+        ("counts one too many", ""),
+    ] {
+        let text = rounds::ledger(wrong::named(name), 80, 0..RUNS).unwrap_err();
+        assert!(text.contains(words), "{name}: {text}");
+    }
+}

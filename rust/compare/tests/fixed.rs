@@ -1,0 +1,39 @@
+//! Cases whose outcome is written out by hand: by hand, by the second program
+//! and by the library it is the same.
+
+use driftpocket_compare::rows::{Row, check_all};
+use driftpocket_compare::{edges, refusals, tokens, worked};
+
+/// Checks rows, of which there must be so many at least.
+fn check(rows: &[Row], least: usize) {
+    if let Err(text) = check_all(driftpocket::run_raw, rows) {
+        panic!("{text}");
+    }
+    assert!(rows.len() >= least, "only {} rows", rows.len());
+}
+
+#[test]
+fn worked_cases() {
+    let rows = worked::rows();
+    check(&rows, 19);
+    for number in 1..=13 {
+        let name = format!("P{number}");
+        let is_it = |row: &Row| row.name.split(',').next() == Some(&name);
+        assert!(rows.iter().any(is_it), "{name} is there");
+    }
+}
+
+#[test]
+fn edges_of_lists_lengths_pointers_and_targets() {
+    check(&edges::rows(), 74);
+}
+
+#[test]
+fn tokens_just_right_and_just_wrong() {
+    check(&tokens::rows(), 47);
+}
+
+#[test]
+fn refusals_and_their_order() {
+    check(&refusals::rows(), 1909);
+}
