@@ -19,6 +19,7 @@ use Rattle.processor.specs.Prog.{Prog, done, stop, fetch, put, Result, ended, b
 use Rattle.processor.specs.declared.answer.Fault.{Fault}
 use Rattle.processor.specs.declared.answer.Refusal.the-variants.{Instruction as BadForm}
 use Rattle.processor.specs.declared.state.State.{State}
+use Rattle.replay.specs.Permission.{hidden}
 use Rattle.replay.specs.Exec.{InstructionSet, exec, refused, perform}
 use Rattle.replay.specs.Run.{after}
 use Rattle.replay.specs.declared.instruction.Instruction.{Instruction}
@@ -88,7 +89,7 @@ module _ (look₁ look₂ : Lookup) (lent₁ lent₂ : List ℕ) (places₁ : Pl
   performed : (set : InstructionSet) (i : Instruction) (s : State) (bytes₁ bytes₂ : List ℕ) → Beside look₁ look₂ lent₁ lent₂ bytes₁ bytes₂
       → isPageFault (perform set look₁ i s bytes₁ .answer) ≡ false → StepsAlike look₁ look₂ lent₁ lent₂ (perform set look₁ i s bytes₁) (perform set look₂ i s bytes₂)
   unfolding perform operate
-  performed set i s bytes₁ bytes₂ b = by (set .fits i (s .mode))
+  performed set i s bytes₁ bytes₂ b = by (set .fits i (hidden s))
     where
       now : Lookup → List ℕ → Bool → Step
       now look bytes t = cond t (settle s bytes (interp look (exec set i s) bytes)) (refused BadForm s bytes)

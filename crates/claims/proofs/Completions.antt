@@ -171,4 +171,5 @@ exec-leaves i s form =
 
 -- a single operation that completes
 pub completion : (look : Lookup) (i : Instruction) (s : State) (bytes : List ℕ) → perform codes look i s bytes .answer ≡ Completed → Completes i s (perform codes look i s bytes .state)
+unfolding hidden
 completion look i s bytes = performed (Completes i s) codes look i s bytes (exec-leaves i s)

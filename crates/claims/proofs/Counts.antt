@@ -22,6 +22,7 @@ use Rattle.processor.specs.declared.answer.Fault.{Fault}
 use Rattle.processor.specs.declared.answer.Refusal.{Refusal}
 use Rattle.processor.specs.declared.answer.Refusal.the-variants.{Instruction as BadForm}
 use Rattle.processor.specs.declared.state.State.{State}
+use Rattle.replay.specs.Permission.{hidden}
 use Rattle.replay.specs.Exec.{InstructionSet, exec, refused, perform}
 use Rattle.replay.specs.Run.{Run, endsAt, onward, runFrom, after}
 use Rattle.replay.specs.declared.instruction.Instruction.{Instruction}
@@ -50,7 +51,7 @@ one-more P k below here j h = elim (ℕ-discrete j k) [ yes at ↦ rw at here | 
 
 pub unchanged : Unchanged
 unfolding perform operate
-unchanged set look i s bytes stops = go (set .fits i (s .mode)) (interp look (exec set i s) bytes) stops
+unchanged set look i s bytes stops = go (set .fits i (hidden s)) (interp look (exec set i s) bytes) stops
   where
     by : Bool → Result State → Step
     by t r = cond t (settle s bytes r) (refused BadForm s bytes)

@@ -119,8 +119,8 @@ module _ (set : InstructionSet) (look : Lookup) (i : Instruction) (s : State) (b
     -- the whole step, where a run that ended with it would not have ended because a WRSS was not permitted
     pub same-step : (k : ℕ) → notPermitted (endsAt k (perform set look i s bytes)) i ≡ false
         → perform set look i (granted user supervisor s) bytes ≡ onStep user supervisor (perform set look i s bytes)
-    unfolding perform granted notPermitted
-    same-step k e = go (set .fits i (s .mode)) e
+    unfolding perform notPermitted
+    same-step k e = rw (hidden-granted user supervisor s) (go (set .fits i (hidden s)) e)
       where
         now : Bool → Step
         now t = cond t (operate look (exec set i s) s bytes) (refused BadForm s bytes)

@@ -14,6 +14,7 @@ use Rattle.processor.specs.declared.answer.Answer.the-variants.{Completed}
 use Rattle.processor.specs.declared.answer.Fault.{Fault}
 use Rattle.processor.specs.declared.answer.Refusal.the-variants.{Instruction as BadForm}
 use Rattle.processor.specs.declared.state.State.{State}
+use Rattle.replay.specs.Permission.{hidden}
 use Rattle.replay.specs.Exec.{InstructionSet, exec, refused, perform}
 use Rattle.replay.specs.declared.instruction.Instruction.{Instruction}
 
@@ -70,10 +71,10 @@ settles-at-leaf P s bytes (broken fault) leaf e = let z : _≡_ {A = ℕ} 0 1 = 
 
 -- a single operation that completes ends at a leaf of what its instruction does, and its form has passed
 pub performed : (P : State → Type 0) (set : InstructionSet) (look : Lookup) (i : Instruction) (s : State) (bytes : List ℕ)
-    → (set .fits i (s .mode) ≡ true → Leaves P (exec set i s))
+    → (set .fits i (hidden s) ≡ true → Leaves P (exec set i s))
     → perform set look i s bytes .answer ≡ Completed → P (perform set look i s bytes .state)
 unfolding perform operate
-performed P set look i s bytes leaves = go (set .fits i (s .mode)) leaves
+performed P set look i s bytes leaves = go (set .fits i (hidden s)) leaves
   where
     go : (t : Bool) → (t ≡ true → Leaves P (exec set i s))
         → cond t (operate look (exec set i s) s bytes) (refused BadForm s bytes) .answer ≡ Completed

@@ -1,6 +1,6 @@
 -- One instruction, from the operation that it runs on the state without the permission bits. Assumes nothing.
 use Prim.Native.Nat.{ℕ}
-use mathlib.Core.Bool.{true}
+use mathlib.Core.Bool.{Bool, true}
 use mathlib.Core.List.{List}
 use mathlib.Core.Path.{_≡_, refl, ap}
 use Rattle.memory.specs.Pages.{Lookup}
@@ -9,7 +9,9 @@ use Rattle.processor.specs.Prog.{Prog, done, _>>=_, Result, ended, broken, inte
 use Rattle.processor.specs.State.{permitted}
 use Rattle.processor.specs.declared.state.State.{State}
 use Rattle.processor.proofs.Laws.{continues, breaks}
+use Rattle.replay.specs.Instruction.{wellFormed}
 use Rattle.replay.specs.Permission.{hidden, shown}
+use Rattle.replay.specs.Codes.{codes}
 use Rattle.replay.specs.Exec.{InstructionSet, operationOf, exec, unhidden, perform}
 use Rattle.replay.specs.declared.instruction.Instruction.{Instruction}
 
@@ -30,7 +32,12 @@ put-back look p s h bytes = go (interp look p bytes) refl
     go (broken fault) e = ap (settle s bytes) (breaks look back p bytes fault e)
 
 -- a well-formed instruction
-pub performed : (set : InstructionSet) (look : Lookup) (i : Instruction) (s : State) (bytes : List ℕ) → set .fits i (s .mode) ≡ true
+pub performed : (set : InstructionSet) (look : Lookup) (i : Instruction) (s : State) (bytes : List ℕ) → set .fits i (hidden s) ≡ true
     → perform set look i s bytes ≡ backFrom s (operate look (operationOf set i (permitted s) (hidden s)) (hidden s) bytes)
 unfolding perform exec
 performed set look i s bytes e = rw e (put-back look (operationOf set i (permitted s) (hidden s)) s (hidden s) bytes)
+
+-- the form of the built codes depends on the mode alone
+pub form-fits : (i : Instruction) (s : State) (t : Bool) → wellFormed i (s .mode) ≡ t → codes .fits i (hidden s) ≡ t
+unfolding hidden
+form-fits i s t e = e

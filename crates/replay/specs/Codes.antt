@@ -27,4 +27,4 @@ operation i s =
     (stop ud))))
 
 abbrev pub codes : InstructionSet
-codes = record { fits = wellFormed; operation = operation }
+codes = record { fits = λ i s. wellFormed i (s .mode); operation = operation }

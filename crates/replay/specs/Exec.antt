@@ -17,9 +17,9 @@ use Rattle.replay.specs.Instruction.{isWrss, sizeOf}
 use Rattle.replay.specs.Permission.{hidden, shown}
 use Rattle.replay.specs.declared.instruction.Instruction.{Instruction}
 
--- An instruction set: the forms that it takes in a mode, and what each instruction but WRSS does.
+-- An instruction set: the forms that it takes, and what each instruction but WRSS does, both by the state that operations see.
 pub record InstructionSet : Type 0 where
-  pub fits : Instruction → ℕ → Bool
+  pub fits : Instruction → State → Bool
   pub operation : Instruction → State → Prog State
 
 -- what an instruction does, by the state that operations see; WRSS alone is told whether it is permitted
@@ -42,4 +42,4 @@ refused refusal s bytes = record { answer = Refused refusal; state = s; bytes = 
 
 -- A single operation (the papers' term): answer, state and bytes after one instruction.
 unfoldable pub perform : InstructionSet → Lookup → Instruction → State → List ℕ → Step
-perform set look i s bytes = cond (set .fits i (s .mode)) (operate look (exec set i s) s bytes) (refused BadForm s bytes)
+perform set look i s bytes = cond (set .fits i (hidden s)) (operate look (exec set i s) s bytes) (refused BadForm s bytes)

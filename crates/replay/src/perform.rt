@@ -16,7 +16,7 @@ use processor::State;
 use processor::Vector;
 
 // The target of a call.
-fn target(step: Instruction, state: State) -> u64
+fn call_target(step: Instruction, state: State) -> u64
     ensures { λ r. ⌜ r ≡ targetOf step state ⌝ }
 {
     if step.code == 7 {
@@ -53,7 +53,7 @@ fn dispatch(
         return switches::saveprevssp::execute(state, pages, bytes, length);
     }
     if step.is_call() {
-        return calls::call::execute(state, pages, bytes, target(step, state), length);
+        return calls::call::execute(state, pages, bytes, call_target(step, state), length);
     }
     state.fail(processor::fault(Vector::InvalidOpcode))
 }

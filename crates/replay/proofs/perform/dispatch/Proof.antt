@@ -60,8 +60,8 @@ returns-4 c = rw (sym (c .before .before .before .before .before .before .before
 is-call-requires : tie.Need-is-call-requires
 is-call-requires c κs = search needs
 
-target-requires : tie.Need-target-requires
-target-requires c κs = search needs
+call-target-requires : tie.Need-call-target-requires
+call-target-requires c κs = search needs
 
 execute-requires-5 : tie.Need-execute-requires-5
 execute-requires-5 c κs = search needs
@@ -71,7 +71,7 @@ same-length-5 c = search needs
 
 returns-5 : tie.Need-returns-5
 unfolding operationOf operation
-returns-5 c = rw (sym (c .before .before .before .before .before .before .before .before .before .before .before .before .before .before .is-wrss .ensures) ∙ c .before .before .before .before .before .before .before .before .before .before .before .before .before .if1 .left, sym (c .before .before .before .before .before .before .before .before .before .before .before .before .is-incssp .ensures) ∙ c .before .before .before .before .before .before .before .before .before .before .before .if2 .left, ne-eqb _ _ (c .before .before .before .before .before .before .before .before .before .if3 .left), ne-eqb _ _ (c .before .before .before .before .before .before .before .if4 .left), sym (c .before .before .before .before .before .before .is-call .ensures) ∙ c .before .before .before .before .before .if5 .taken, ← c .before .before .before .target .ensures) (c .before .before .execute5 .ensures)
+returns-5 c = rw (sym (c .before .before .before .before .before .before .before .before .before .before .before .before .before .before .is-wrss .ensures) ∙ c .before .before .before .before .before .before .before .before .before .before .before .before .before .if1 .left, sym (c .before .before .before .before .before .before .before .before .before .before .before .before .is-incssp .ensures) ∙ c .before .before .before .before .before .before .before .before .before .before .before .if2 .left, ne-eqb _ _ (c .before .before .before .before .before .before .before .before .before .if3 .left), ne-eqb _ _ (c .before .before .before .before .before .before .before .if4 .left), sym (c .before .before .before .before .before .before .is-call .ensures) ∙ c .before .before .before .before .before .if5 .taken, ← c .before .before .before .call-target .ensures) (c .before .before .execute5 .ensures)
 
 fault-requires : tie.Need-fault-requires
 fault-requires c κs = search needs
@@ -103,7 +103,7 @@ dispatch-spec =
     same-length-4
     returns-4
     is-call-requires
-    target-requires
+    call-target-requires
     execute-requires-5
     same-length-5
     returns-5

@@ -4,7 +4,7 @@ use borrow.Author.Needs.{needs}
 use borrow.Author.Tests.{not-true, not-false}
 use Rattle.replay.proofs.perform.perform.Tie as tie
 use Rattle.replay.specs.Codes.{codes}
-use Rattle.replay.proofs.ExecLaws.{backFrom, performed}
+use Rattle.replay.proofs.ExecLaws.{backFrom, performed, form-fits}
 use Rattle.replay.specs.Exec.{perform}
 use Rattle.replay.proofs.perform.perform.Statement.{statement}
 
@@ -13,7 +13,7 @@ well-formed-requires c κs = search needs
 
 returns : tie.Need-returns
 unfolding perform
-returns c = rw (sym (c .before .well-formed .ensures) ∙ not-true _ (c .if1 .taken))
+returns c = rw (form-fits _ (c .before .before .before .before .args .state) _ (sym (c .before .well-formed .ensures) ∙ not-true _ (c .if1 .taken)))
 
 permitted-requires : tie.Need-permitted-requires
 permitted-requires c κs = search needs
@@ -31,7 +31,7 @@ same-length : tie.Need-same-length
 same-length c = search needs
 
 returns-2 : tie.Need-returns-2
-returns-2 c = rw (c .unhide .ensures, performed codes _ _ (c .before .before .before .before .before .before .before .before .before .before .before .args .state) _ (sym (c .before .before .before .before .before .before .before .before .well-formed .ensures) ∙ not-false _ (c .before .before .before .before .before .before .before .if1 .left)), ← c .before .before .before .before .before .before .permitted .ensures, ← c .before .before .before .before .before .hidden .ensures) (ap (backFrom (c .before .before .before .before .before .before .before .before .before .before .before .args .state)) (c .before .before .before .dispatch .ensures))
+returns-2 c = rw (c .unhide .ensures, performed codes _ _ (c .before .before .before .before .before .before .before .before .before .before .before .args .state) _ (form-fits _ _ _ (sym (c .before .before .before .before .before .before .before .before .well-formed .ensures) ∙ not-false _ (c .before .before .before .before .before .before .before .if1 .left))), ← c .before .before .before .before .before .before .permitted .ensures, ← c .before .before .before .before .before .hidden .ensures) (ap (backFrom (c .before .before .before .before .before .before .before .before .before .before .before .args .state)) (c .before .before .before .dispatch .ensures))
 
 pub perform-spec : {M : Type 1} → statement M
 perform-spec =
