@@ -92,7 +92,7 @@ extern "C" {
  */
 
 #define DRIFTPOCKET_COMPLETED 0          /* no refusal and no fault: every instruction completed */
-#define DRIFTPOCKET_REFUSED_COUNT 1      /* more than 16 entries, or not 4,096 bytes for each */
+#define DRIFTPOCKET_REFUSED_PAGES 1      /* more than 16 entries, or not 4,096 bytes for each */
 #define DRIFTPOCKET_REFUSED_KIND 2       /* an entry's kind is none of 1, 2, 3 */
 #define DRIFTPOCKET_REFUSED_ADDRESS 3    /* a page address is not canonical: bits 63 to 47 are not all equal */
 #define DRIFTPOCKET_REFUSED_REPEATED 4   /* two entries have one page address */
@@ -110,7 +110,7 @@ extern "C" {
 
 #define DRIFTPOCKET_FAULT 256
 
-#define DRIFTPOCKET_UD 6  /* #UD: not enabled, WRSS not permitted, or codes 1 to 6 in mode 0 */
+#define DRIFTPOCKET_UD 6  /* #UD: codes 1 to 6 in mode 0 or while not enabled; WRSS not permitted */
 #define DRIFTPOCKET_SS 12 /* #SS(0): an ordinary push that is not canonical (mode 2) or runs past 2^32 (mode 1) */
 #define DRIFTPOCKET_GP 13 /* #GP(0): alignment, a bad SAVEPREVSSP token, a bad target, a shadow access that is not canonical */
 #define DRIFTPOCKET_PF 14 /* #PF: a byte on no listed page, or on one of another kind */
@@ -146,8 +146,8 @@ extern "C" {
  * element type and valid for its whole length, for reading and, where it is not const, for writing; all of the bytes it
  * covers have been set. No pointer is null. With length 0 nothing is read or written through it, but it must still be
  * aligned and not null: the address of any variable of the type will do. `state`, `bytes` and `report` overlap neither one
- * another nor `pages` or `words`, and nobody else touches any of the five while the call runs. Calls on buffers of their
- * own may run in several threads at once.
+ * another nor `pages` or `words`; while the call runs nobody else touches those three, or writes the other two. Calls whose
+ * `state`, `bytes` and `report` are their own may run in several threads at once.
  */
 uint64_t driftpocket_run(uint64_t *state, size_t state_len, const uint64_t *pages, size_t pages_len, uint8_t *bytes,
                          size_t bytes_len, const uint64_t *words, size_t words_len, uint64_t *report, size_t report_len);

@@ -59,7 +59,7 @@ module _ (look₁ look₂ : Lookup) (lent₁ lent₂ : List ℕ) (places₁ : Pl
       by (Blocked (WrongKind address)) e = page-missing (blame a (WrongKind address)) refl refl
 
   -- a store that the first can do
-  stored : (bytes₁ bytes₂ : List ℕ) → Beside look₁ look₂ lent₁ lent₂ bytes₁ bytes₂ → (a : Access) (v : ℕ) → probe look₁ a ≡ Ready
+  pub stored : (bytes₁ bytes₂ : List ℕ) → Beside look₁ look₂ lent₁ lent₂ bytes₁ bytes₂ → (a : Access) (v : ℕ) → probe look₁ a ≡ Ready
       → Beside look₁ look₂ lent₁ lent₂ (written look₁ a v bytes₁) (written look₂ a v bytes₂)
   stored bytes₁ bytes₂ b a v e = record {
     extends = store-in-both look₁ bytes₁ look₂ bytes₂ lent₂ (rw (b .kept₁) places₁) (rw (b .kept₂) places₂) (b .extends) a v e;

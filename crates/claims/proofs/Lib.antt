@@ -3,15 +3,19 @@
 --     EndsProof          refused-before, unchanged, count-tied, completed-exactly, at-most-n, step-is-run (demand 1)
 --     MorePagesProof     more-pages (demand 3, page lists)
 --     MoreRightsProof    more-rights (demand 3, permission bits)
+--     ListOrderProof     order-free (the order of a page list)
 --     LedgerProof        ledger
 --     RangesProof        stays-in-range, run-stays-in-range
 --     WorkedProof        worked (the worked cases)
+--     Promised           demand-1, demand-3, promised: all of them
 pub mod EndsProof
 pub mod MorePagesProof
 pub mod MoreRightsProof
+pub mod ListOrderProof
 pub mod LedgerProof
 pub mod RangesProof
 pub mod WorkedProof
+pub mod Promised
 mod Counts
 mod Beside
 mod NeverBack

@@ -27,7 +27,7 @@ use Rattle.claims.proofs.Counts.{one-more, completes, goes-as-far, ends
 use Rattle.claims.proofs.EndsProof.{refused-before, count-tied}
 
 -- an instruction that completes has no page fault
-no-fault : (a : Answer) → a ≡ Completed → isPageFault a ≡ false
+pub no-fault : (a : Answer) → a ≡ Completed → isPageFault a ≡ false
 no-fault a e = rw e
 
 -- `lent₁` and `lent₂` are the bytes that the two runs begin with
@@ -46,7 +46,7 @@ module _ (pages₁ lent₁ pages₂ lent₂ : List ℕ) (valid₁ : listing page
       record { registers = same; old = both .0; added = both .1 }
 
   -- both lists are valid, so what is tested before any step has one result
-  same-test : (good : Bool) (words : ℕ) → check pages₂ (length lent₂) good words ≡ check pages₁ (length lent₁) good words
+  pub same-test : (good : Bool) (words : ℕ) → check pages₂ (length lent₂) good words ≡ check pages₁ (length lent₁) good words
   unfolding check
   same-test good words = rw (valid₁, valid₂)
 
@@ -58,7 +58,7 @@ module _ (pages₁ lent₁ pages₂ lent₂ : List ℕ) (valid₁ : listing page
     after₂ k = after set look₂ (instructionAt words) k s lent₂
 
     -- up to a page fault of the first
-    same-after : (k : ℕ) → ((j : ℕ) → j < k → isPageFault (after₁ (suc j) .answer) ≡ false) → StepsAlike look₁ look₂ lent₁ lent₂ (after₁ k) (after₂ k)
+    pub same-after : (k : ℕ) → ((j : ℕ) → j < k → isPageFault (after₁ (suc j) .answer) ≡ false) → StepsAlike look₁ look₂ lent₁ lent₂ (after₁ k) (after₂ k)
     same-after k whole =
         alike look₁ look₂ lent₁ lent₂ (spot-places pages₁ (length lent₁)) (spot-places pages₂ (length lent₂)) set (instructionAt words) s
         record { extends = pages-extend pages₁ lent₁ pages₂ lent₂ valid₂ holds; kept₁ = refl; kept₂ = refl } k whole
@@ -79,15 +79,15 @@ module _ (pages₁ lent₁ pages₂ lent₂ : List ℕ) (valid₁ : listing page
     -- two runs of the steps
     module _ (r₁ r₂ : Run) (c₁ : Counted set look₁ (instructionAt words) (length words / 4) s lent₁ r₁) (c₂ : Counted set look₂ (instructionAt words) (length words / 4) s lent₂ r₂) where
       -- what the first completed had no page fault
-      whole : (j : ℕ) → j < r₁ .count → isPageFault (after₁ (suc j) .answer) ≡ false
+      pub whole : (j : ℕ) → j < r₁ .count → isPageFault (after₁ (suc j) .answer) ≡ false
       whole j h = no-fault (after₁ (suc j) .answer) (c₁ .completed j h)
 
       -- and the second completes it
-      completed₂ : (j : ℕ) → j < r₁ .count → after₂ (suc j) .answer ≡ Completed
+      pub completed₂ : (j : ℕ) → j < r₁ .count → after₂ (suc j) .answer ≡ Completed
       completed₂ j h = same-after (suc j) (λ i below. whole i (omega arith)) .answer ∙ c₁ .completed j h
 
       -- at the first's count
-      then-memory : SameMemory pages₁ pages₂ lent₂ (r₁ .state) (r₁ .bytes) (after₂ (r₁ .count) .state) (after₂ (r₁ .count) .bytes)
+      pub then-memory : SameMemory pages₁ pages₂ lent₂ (r₁ .state) (r₁ .bytes) (after₂ (r₁ .count) .state) (after₂ (r₁ .count) .bytes)
       then-memory =
           let there = same-after (r₁ .count) whole in
           same-memory _ _ _ _ (there .state ∙ sym (c₁ .state-after)) (rw (c₁ .bytes-after) (there .memory))

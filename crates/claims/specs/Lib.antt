@@ -4,6 +4,8 @@
 pub mod Ends
 pub mod MorePages
 pub mod MoreRights
+pub mod ListOrder
 pub mod Ledger
 pub mod Ranges
 pub mod Worked
+pub mod Promises

@@ -84,7 +84,7 @@ fn fields_of_the_state() {
 fn refusals_and_vectors() {
     expect(&[
         ("COMPLETED", 0),
-        ("REFUSED_COUNT", Refusal::PageCount.number()),
+        ("REFUSED_PAGES", Refusal::PageCount.number()),
         ("REFUSED_KIND", Refusal::PageKind.number()),
         ("REFUSED_ADDRESS", Refusal::PageAddress.number()),
         ("REFUSED_REPEATED", Refusal::PageRepeated.number()),

@@ -1,0 +1,33 @@
+-- Every claim is proved. Assumes nothing.
+use Rattle.claims.specs.Promises.{Demand1, Demand3, Promises}
+use Rattle.claims.proofs.EndsProof.{refused-before, unchanged, count-tied, completed-exactly, step-is-run, at-most-n}
+use Rattle.claims.proofs.MorePagesProof.{more-pages}
+use Rattle.claims.proofs.MoreRightsProof.{more-rights}
+use Rattle.claims.proofs.ListOrderProof.{order-free}
+use Rattle.claims.proofs.LedgerProof.{ledger}
+use Rattle.claims.proofs.RangesProof.{stays-in-range, run-stays-in-range}
+use Rattle.claims.proofs.WorkedProof.{worked}
+
+pub demand-1 : Demand1
+demand-1 = record {
+  refused-before = refused-before;
+  unchanged = unchanged;
+  count-tied = count-tied;
+  completed-exactly = completed-exactly;
+  step-is-run = step-is-run;
+  at-most-n = at-most-n;
+}
+
+pub demand-3 : Demand3
+demand-3 = record { more-pages = more-pages; more-rights = more-rights }
+
+pub promised : Promises
+promised = record {
+  demand-1 = demand-1;
+  demand-3 = demand-3;
+  order-free = order-free;
+  ledger = ledger;
+  stays-in-range = stays-in-range;
+  run-stays-in-range = run-stays-in-range;
+  worked = worked;
+}
