@@ -16,6 +16,7 @@ use Rattle.memory.specs.declared.access.Reach.the-variants.{Ready, Blocked}
 use Rattle.memory.proofs.Laws.{length-written, ready-in-second, same-value, store-in-both, not-canonical}
 use Rattle.processor.specs.Accesses.{blame}
 use Rattle.processor.specs.Prog.{Prog, done, stop, fetch, put, Result, ended, broken, onReach, interp, Step, settle, operate}
+use Rattle.processor.specs.declared.answer.Answer.the-variants.{Faulted}
 use Rattle.processor.specs.declared.answer.Fault.{Fault}
 use Rattle.processor.specs.declared.answer.Refusal.the-variants.{Instruction as BadForm}
 use Rattle.processor.specs.declared.state.State.{State}
@@ -23,7 +24,7 @@ use Rattle.replay.specs.Permission.{hidden}
 use Rattle.replay.specs.Exec.{InstructionSet, exec, refused, perform}
 use Rattle.replay.specs.Run.{after}
 use Rattle.replay.specs.declared.instruction.Instruction.{Instruction}
-use Rattle.claims.specs.MorePages.{isPage, isPageFault}
+use Rattle.claims.specs.MorePages.{isPageFault}
 
 -- the bytes that were lent to two lookups have become these, and the second memory still extends the first
 pub record Beside (look₁ look₂ : Lookup) (lent₁ lent₂ bytes₁ bytes₂ : List ℕ) : Type 0 where
@@ -35,7 +36,7 @@ pub record Beside (look₁ look₂ : Lookup) (lent₁ lent₂ bytes₁ bytes₂ 
 data ResultsAlike (look₁ look₂ : Lookup) (lent₁ lent₂ : List ℕ) (A : Type 0) (r₁ r₂ : Result A) : Type 0 where
   both-end : (x : A) (bytes₁ bytes₂ : List ℕ) → r₁ ≡ ended x bytes₁ → r₂ ≡ ended x bytes₂ → Beside look₁ look₂ lent₁ lent₂ bytes₁ bytes₂ → ResultsAlike look₁ look₂ lent₁ lent₂ A r₁ r₂
   both-break : (fault : Fault) → r₁ ≡ broken fault → r₂ ≡ broken fault → ResultsAlike look₁ look₂ lent₁ lent₂ A r₁ r₂
-  page-missing : (fault : Fault) → r₁ ≡ broken fault → isPage (fault .vector) ≡ true → ResultsAlike look₁ look₂ lent₁ lent₂ A r₁ r₂
+  page-missing : (fault : Fault) → r₁ ≡ broken fault → isPageFault (Faulted fault) ≡ true → ResultsAlike look₁ look₂ lent₁ lent₂ A r₁ r₂
 
 -- the second step is the first, but for added pages
 pub record StepsAlike (look₁ look₂ : Lookup) (lent₁ lent₂ : List ℕ) (now₁ now₂ : Step) : Type 0 where

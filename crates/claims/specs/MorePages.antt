@@ -4,31 +4,21 @@ use mathlib.Core.Path.{_≡_}
 use mathlib.Core.Bool.{Bool, true, false}
 use mathlib.Core.List.{List}
 use lib.ListN.{length}
+use lib.Dec.{eqb}
 use Rattle.memory.specs.Pages.{listing, spot}
 use Rattle.memory.specs.Extends.{HoldsPages, Untouched}
 use Rattle.memory.specs.declared.pages.Listing.the-variants.{Valid}
+use Rattle.processor.specs.Answer.{reportOf}
 use Rattle.processor.specs.Prog.{Step}
 use Rattle.processor.specs.declared.answer.Answer.{Answer}
-use Rattle.processor.specs.declared.answer.Answer.the-variants.{Completed, Refused, Faulted}
-use Rattle.processor.specs.declared.answer.Vector.{Vector}
-use Rattle.processor.specs.declared.answer.Vector.the-variants.{InvalidOpcode, Stack, Protection, Page, Control}
 use Rattle.processor.specs.declared.state.State.{State}
 use Rattle.replay.specs.Instruction.{instructionAt}
 use Rattle.replay.specs.Exec.{InstructionSet}
 use Rattle.replay.specs.Run.{Run, run, after}
 
-abbrev pub isPage : Vector → Bool
-isPage InvalidOpcode = false
-isPage Stack = false
-isPage Protection = false
-isPage Page = true
-isPage Control = false
-
--- the answer is a page fault
+-- the answer is a page fault: its vector is 14
 abbrev pub isPageFault : Answer → Bool
-isPageFault Completed = false
-isPageFault (Refused refusal) = false
-isPageFault (Faulted fault) = isPage (fault .vector)
+isPageFault answer = eqb (reportOf answer .vector) 14
 
 -- Registers and old bytes are the same, and the added pages hold what was lent, `lent₂`: the papers' terms, by address (`HoldsPages`
 -- matches pages by their entries, wherever they stand).

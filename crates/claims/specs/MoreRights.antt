@@ -4,13 +4,12 @@ use mathlib.Core.Path.{_≡_}
 use mathlib.Core.Bool.{Bool, true, false, not, cond, _&&_}
 use mathlib.Core.List.{List}
 use lib.ListN.{length}
+use lib.Dec.{eqb}
 use Rattle.memory.specs.Pages.{spot}
+use Rattle.processor.specs.Answer.{reportOf}
 use Rattle.processor.specs.Prog.{Step}
 use Rattle.processor.specs.State.{usable, permitted}
 use Rattle.processor.specs.declared.answer.Answer.{Answer}
-use Rattle.processor.specs.declared.answer.Answer.the-variants.{Completed, Refused, Faulted}
-use Rattle.processor.specs.declared.answer.Vector.{Vector}
-use Rattle.processor.specs.declared.answer.Vector.the-variants.{InvalidOpcode, Stack, Protection, Page, Control}
 use Rattle.processor.specs.declared.state.State.{State}
 use Rattle.replay.specs.Instruction.{instructionAt, isWrss}
 use Rattle.replay.specs.Permission.{withoutWrite, withCet}
@@ -27,18 +26,9 @@ switchedOn false register = register
 unfoldable pub granted : Bool → Bool → State → State
 granted user supervisor s = withCet s (switchedOn user (s .ucet)) (switchedOn supervisor (s .scet))
 
-abbrev pub isInvalidOpcode : Vector → Bool
-isInvalidOpcode InvalidOpcode = true
-isInvalidOpcode Stack = false
-isInvalidOpcode Protection = false
-isInvalidOpcode Page = false
-isInvalidOpcode Control = false
-
--- the answer is #UD
+-- the answer is #UD: its vector is 6
 abbrev pub isUd : Answer → Bool
-isUd Completed = false
-isUd (Refused refusal) = false
-isUd (Faulted fault) = isInvalidOpcode (fault .vector)
+isUd answer = eqb (reportOf answer .vector) 6
 
 -- A WRSS was not permitted (the papers' term): outside mode 0 and while enabled, code 5 or 6 gave #UD, and WR_SHSTK_EN of this CPL is
 -- clear. `i` is the instruction that the run ended at; the run's state is the one from before it.
