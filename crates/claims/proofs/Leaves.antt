@@ -1,8 +1,8 @@
 -- What every state satisfies that a program of the access language can end with, whatever its loads give. Assumes nothing.
 use Prim.Native.Nat.{ℕ}
-use mathlib.Core.Path.{_≡_, refl, subst}
 use mathlib.Core.Bool.{Bool, true, false, cond}
 use mathlib.Core.List.{List}
+use mathlib.Core.Path.{_≡_, refl, subst}
 use native.Mathlib.Omega.{arith}
 use Rattle.memory.specs.Access.{probe, value, written}
 use Rattle.memory.specs.Pages.{Lookup}
@@ -17,6 +17,11 @@ use Rattle.processor.specs.declared.state.State.{State}
 use Rattle.replay.specs.Permission.{hidden}
 use Rattle.replay.specs.Exec.{InstructionSet, exec, refused, perform}
 use Rattle.replay.specs.declared.instruction.Instruction.{Instruction}
+
+-- what holds of both holds of the one that a test picks
+pub either : {A : Type 0} (P : A → Type 0) (t : Bool) (a b : A) → P a → P b → P (cond t a b)
+either P true a b first second = first
+either P false a b first second = second
 
 -- every leaf of the program satisfies P
 unfoldable pub Leaves : {A : Type 0} → (A → Type 0) → Prog A → Type 0

@@ -1,7 +1,7 @@
 -- The ledger of the shadow stack pointer. Assumes nothing.
 use Prim.Native.Nat.{ℕ, suc, _+_}
-use mathlib.Core.Path.{_≡_, refl, _∙_, ap, subst}
 use mathlib.Core.Bool.{cond}
+use mathlib.Core.Path.{_≡_, refl, _∙_, ap, subst}
 use lib.Dec.{eqb}
 use lib.ListN.{length}
 use Rattle.memory.specs.Address.{wrapped}

@@ -6,14 +6,17 @@
 --     ListOrderProof     order-free (the order of a page list)
 --     LedgerProof        ledger
 --     RangesProof        stays-in-range, run-stays-in-range
+--     FaultsProof        fault-numbers
 --     WorkedProof        worked (the worked cases)
 --     Promised           demand-1, demand-3, promised: all of them
+
 pub mod EndsProof
 pub mod MorePagesProof
 pub mod MoreRightsProof
 pub mod ListOrderProof
 pub mod LedgerProof
 pub mod RangesProof
+pub mod FaultsProof
 pub mod WorkedProof
 pub mod Promised
 mod Counts

@@ -1,7 +1,7 @@
 -- What each operation leaves of the state where it completes. Assumes nothing.
 use Prim.Native.Nat.{ℕ, _*_, _%_, _^_, _<_, _≤_}
-use mathlib.Core.Path.{_≡_, refl}
 use mathlib.Core.Bool.{Bool, true, false, not, cond, _&&_}
+use mathlib.Core.Path.{_≡_, refl}
 use native.Mathlib.Omega.{arith}
 use lib.Dec.{eqb}
 use borrow.Author.Tests.{leb-true, eqb-true}
@@ -17,7 +17,7 @@ use Rattle.shadow.specs.Wrss.{wrss}
 use Rattle.switches.specs.Rstorssp.{goodToken, rstorssp}
 use Rattle.switches.specs.Saveprevssp.{carry, popHole, newTop, savedToken, leaveToken, saveprevssp}
 use Rattle.calls.specs.Call.{inCode, pushed, runsPast, call}
-use Rattle.claims.proofs.Leaves.{Leaves, then-leaves, all-leaves, tested-leaves}
+use Rattle.claims.proofs.Leaves.{either, Leaves, then-leaves, all-leaves, tested-leaves}
 use Rattle.claims.proofs.PointerSums.{plus-below, minus-below, plus-aligned, minus-aligned, bytes-aligned}
 use Rattle.claims.proofs.RangeParts.{InRange}
 
@@ -93,11 +93,6 @@ minus-of-4 s a Eight h = minus-aligned (widthOf s) a 8 h refl
 
 of-8-of-4 : (a : ℕ) → a % 8 ≡ 0 → a % 4 ≡ 0
 of-8-of-4 a e = omega arith
-
--- what holds of both numbers holds of the one that a test picks
-either : (P : ℕ → Type 0) (t : Bool) (a b : ℕ) → P a → P b → P (cond t a b)
-either P true a b first second = first
-either P false a b first second = second
 
 -- ---- the operations
 

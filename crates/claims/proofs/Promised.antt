@@ -6,6 +6,7 @@ use Rattle.claims.proofs.MoreRightsProof.{more-rights}
 use Rattle.claims.proofs.ListOrderProof.{order-free}
 use Rattle.claims.proofs.LedgerProof.{ledger}
 use Rattle.claims.proofs.RangesProof.{stays-in-range, run-stays-in-range}
+use Rattle.claims.proofs.FaultsProof.{fault-numbers}
 use Rattle.claims.proofs.WorkedProof.{worked}
 
 pub demand-1 : Demand1
@@ -29,5 +30,6 @@ promised = record {
   ledger = ledger;
   stays-in-range = stays-in-range;
   run-stays-in-range = run-stays-in-range;
+  fault-numbers = fault-numbers;
   worked = worked;
 }

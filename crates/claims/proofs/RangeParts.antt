@@ -1,7 +1,7 @@
 -- What a state in its ranges has, field by field. Assumes nothing.
 use Prim.Native.Nat.{_%_, _^_, _<_, _≤_}
-use mathlib.Core.Path.{_≡_, refl}
 use mathlib.Core.Bool.{Bool, true, false, false≢true, _&&_, _||_}
+use mathlib.Core.Path.{_≡_, refl}
 use lib.Dec.{eqb, ltb, leb}
 use borrow.Author.Tests.{ltb-true, leb-true, eqb-true, lt-ltb, le-leb, eq-eqb}
 use Rattle.processor.specs.State.{isLong, pointersFit, inRange}

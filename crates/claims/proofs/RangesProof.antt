@@ -1,12 +1,12 @@
 -- A state in its ranges stays in them: over a completed instruction, and over whole runs. Assumes nothing.
-use mathlib.Core.Path.{_≡_}
 use mathlib.Core.Bool.{true}
+use mathlib.Core.Path.{_≡_}
+use lib.ListN.{length}
 use Rattle.memory.specs.Pages.{spot}
 use Rattle.processor.specs.State.{inRange}
 use Rattle.replay.specs.Instruction.{instructionAt}
 use Rattle.replay.specs.Codes.{codes}
 use Rattle.replay.specs.Run.{after}
-use lib.ListN.{length}
 use Rattle.claims.specs.Ranges.{StaysInRange, RunStaysInRange}
 use Rattle.claims.proofs.KeptAlong.{run-keeps}
 use Rattle.claims.proofs.Completions.{completion}

@@ -6,6 +6,7 @@ use Rattle.claims.specs.MoreRights.{MoreRights}
 use Rattle.claims.specs.ListOrder.{OrderFree}
 use Rattle.claims.specs.Ledger.{Ledger}
 use Rattle.claims.specs.Ranges.{StaysInRange, RunStaysInRange}
+use Rattle.claims.specs.Faults.{FaultNumbers}
 use Rattle.claims.specs.Worked.{Worked}
 
 -- what is malformed is refused, nothing is lost, and every run ends
@@ -29,4 +30,5 @@ pub record Promises : Type 0 where
   pub ledger : Ledger
   pub stays-in-range : StaysInRange
   pub run-stays-in-range : RunStaysInRange
+  pub fault-numbers : FaultNumbers
   pub worked : Worked
