@@ -5,7 +5,7 @@ use mathlib.Core.Path.{_≡_}
 use native.Mathlib.Omega.{arith}
 use lib.Dec.{eqb}
 use borrow.Author.Tests.{ne-eqb}
-use Rattle.replay.specs.Instruction.{isIncssp, isWrss, isCall}
+use Rattle.replay.specs.Instruction.{oneOf, isIncssp, isWrss, isCall}
 use Rattle.replay.specs.declared.instruction.Instruction.{Instruction}
 
 -- the five tests of a code at once
@@ -26,11 +26,11 @@ pub data Named (i : Instruction) : Type 0 where
   unknown : Tests i false false false false false → Named i
 
 tests : (i : Instruction) (code : ℕ) → i .code ≡ code → Tests i (eqb code 5 || eqb code 6) (eqb code 1 || eqb code 2) (eqb code 3) (eqb code 4) (eqb code 7 || eqb code 8)
-unfolding isWrss isIncssp isCall
+unfolding oneOf
 tests i code e = record { is-wrss = rw e; is-incssp = rw e; is-rstorssp = rw e; is-saveprevssp = rw e; is-call = rw e }
 
 high : (i : Instruction) → 8 < i .code → Tests i false false false false false
-unfolding isWrss isIncssp isCall
+unfolding oneOf
 high i h =
     record {
       is-wrss = rw (off 5 (omega arith), off 6 (omega arith));

@@ -9,15 +9,16 @@ use Rattle.memory.specs.Pages.{Lookup}
 use Rattle.memory.specs.declared.access.Size.{Size}
 use Rattle.processor.specs.Answer.{ud}
 use Rattle.processor.specs.State.{usable, permitted}
-use Rattle.processor.specs.Prog.{Prog, done, stop, _>>=_, Result, ended, broken, interp, Step, operate}
-use Rattle.processor.specs.declared.answer.Answer.the-variants.{Completed, Faulted}
-use Rattle.processor.specs.declared.answer.Fault.{Fault}
+use Rattle.processor.specs.Prog.{Prog, stop, _>>=_, interp, Step, operate}
+use Rattle.processor.specs.declared.answer.Answer.{Answer}
+use Rattle.processor.specs.declared.answer.Answer.the-variants.{Completed, Refused, Faulted}
 use Rattle.processor.specs.declared.answer.Refusal.the-variants.{Instruction as BadForm}
 use Rattle.processor.specs.declared.state.State.{State}
-use Rattle.processor.proofs.Laws.{continues, breaks, completes, faults}
+use Rattle.processor.proofs.Laws.{faults}
+use Rattle.replay.proofs.ExecLaws.{putBack, backFrom, put-back}
 use Rattle.shadow.specs.Wrss.{wrss}
 use Rattle.replay.specs.Instruction.{isWrss, sizeOf}
-use Rattle.replay.specs.Permission.{hidden, shown}
+use Rattle.replay.specs.Permission.{hidden}
 use Rattle.replay.specs.Exec.{InstructionSet, operationOf, exec, refused, perform}
 use Rattle.replay.specs.Run.{endsAt}
 use Rattle.replay.specs.declared.instruction.Instruction.{Instruction}
@@ -77,35 +78,27 @@ module _ (user supervisor : Bool) (s : State) where
       go true q = same-wrss (sizeOf i) (i .a) (i .b) (i .length) (usable s) refl q
       go false q = refl
 
--- ---- what the program leaves, with the bits put back
+-- ---- what is handed back, with the bits put back
 
-abbrev putBack : Prog State → State → Prog State
-putBack p s = p >>= (λ t. done (shown s t))
+same-back : (user supervisor : Bool) (s : State) (now : Step) (answer : Answer) → now .answer ≡ answer → backFrom (granted user supervisor s) now ≡ onStep user supervisor (backFrom s now)
+same-back user supervisor s now Completed e = rw (e, shown-granted user supervisor s (now .state))
+same-back user supervisor s now (Refused refusal) e = rw e
+same-back user supervisor s now (Faulted fault) e = rw e
 
-put-back-ended : (look : Lookup) (p : Prog State) (s : State) (bytes : List ℕ) (t : State) (left : List ℕ) → interp look p bytes ≡ ended t left
-    → operate look (putBack p s) s bytes ≡ record { answer = Completed; state = shown s t; bytes = left }
-unfolding interp
-put-back-ended look p s bytes t left e = completes look (putBack p s) s bytes (shown s t) left (continues look (λ t. done (shown s t)) p bytes t left e)
-
-put-back-broken : (look : Lookup) (p : Prog State) (s : State) (bytes : List ℕ) (fault : Fault) → interp look p bytes ≡ broken fault
-    → operate look (putBack p s) s bytes ≡ record { answer = Faulted fault; state = s; bytes = bytes }
-put-back-broken look p s bytes fault e = faults look (putBack p s) s bytes fault (breaks look (λ t. done (shown s t)) p bytes fault e)
-
-same-put-back : (user supervisor : Bool) (look : Lookup) (p : Prog State) (s : State) (bytes : List ℕ) (r : Result State) → interp look p bytes ≡ r
+-- one program, from either state
+same-put-back : (user supervisor : Bool) (look : Lookup) (p : Prog State) (s : State) (bytes : List ℕ)
     → operate look (putBack p (granted user supervisor s)) (granted user supervisor s) bytes ≡ onStep user supervisor (operate look (putBack p s) s bytes)
-same-put-back user supervisor look p s bytes (ended t left) e =
-    put-back-ended look p (granted user supervisor s) bytes t left e
-    ∙ ap (λ (now : State). record { answer = Completed; state = now; bytes = left }) (shown-granted user supervisor s t)
-    ∙ ap (onStep user supervisor) (sym (put-back-ended look p s bytes t left e))
-same-put-back user supervisor look p s bytes (broken fault) e =
-    put-back-broken look p (granted user supervisor s) bytes fault e ∙ ap (onStep user supervisor) (sym (put-back-broken look p s bytes fault e))
+same-put-back user supervisor look p s bytes =
+    put-back look p (granted user supervisor s) s bytes
+    ∙ same-back user supervisor s (operate look p s bytes) _ refl
+    ∙ ap (onStep user supervisor) (sym (put-back look p s s bytes))
 
 -- ---- one instruction
 
 module _ (set : InstructionSet) (look : Lookup) (i : Instruction) (s : State) (bytes : List ℕ) where
   denied-exec : denied i s ≡ true → operate look (exec set i s) s bytes ≡ record { answer = Faulted ud; state = s; bytes = bytes }
   unfolding exec interp
-  denied-exec e = put-back-broken look _ s bytes ud (ap (λ (p : Prog State). interp look p bytes) (denied-program set i s e))
+  denied-exec e = rw (denied-program set i s e) (put-back look (stop ud) s s bytes ∙ ap (backFrom s) (faults look (stop ud) s bytes ud refl))
 
   module _ (user supervisor : Bool) where
     -- its operation, by whether it is denied; where it is, the answer tells
@@ -114,7 +107,7 @@ module _ (set : InstructionSet) (look : Lookup) (i : Instruction) (s : State) (b
     unfolding exec
     same-exec true d e = absurd (true≢false (sym d ∙ (rw (denied-exec d) at e)))
     same-exec false d e =
-        rw (same-program user supervisor s set i d) (same-put-back user supervisor look (operationOf set i (permitted s) (hidden s)) s bytes _ refl)
+        rw (same-program user supervisor s set i d) (same-put-back user supervisor look (operationOf set i (permitted s) (hidden s)) s bytes)
 
     -- the whole step, where a run that ended with it would not have ended because a WRSS was not permitted
     pub same-step : (k : ℕ) → notPermitted (endsAt k (perform set look i s bytes)) i ≡ false

@@ -10,7 +10,7 @@ use Rattle.shadow.specs.Wrss.{wrss}
 use Rattle.switches.specs.Rstorssp.{home, goodToken, restoredFlags, rstorssp}
 use Rattle.switches.specs.Saveprevssp.{popHole, newTop, savedToken, leaveToken, saveprevssp}
 use Rattle.calls.specs.Call.{displacement, relative, inCode, runsPast, call}
-use Rattle.replay.specs.Instruction.{instructionAt, isIncssp, isWrss, isCall, isQuad, lengthFits, wordsFit, narrow, modeFits, wellFormed}
+use Rattle.replay.specs.Instruction.{instructionAt, oneOf, lengthFits, wordsFit, narrow, modeFits, wellFormed}
 use Rattle.replay.specs.Permission.{writeBit, withoutWrite, hidden, shown}
 use Rattle.replay.specs.Exec.{operationOf, exec, perform}
 use Rattle.replay.specs.Codes.{target, operation}
@@ -23,7 +23,7 @@ unfolding scan canonicalBytes listedBytes probe number value write written wrapp
     _>>=_ interp operate plusOf minusOf next enabled usable permitted inRange
     incssp wrss home goodToken restoredFlags rstorssp popHole newTop savedToken leaveToken saveprevssp
     displacement relative inCode runsPast call
-    instructionAt isIncssp isWrss isCall isQuad lengthFits wordsFit narrow modeFits wellFormed
+    instructionAt oneOf lengthFits wordsFit narrow modeFits wellFormed
     writeBit withoutWrite hidden shown operationOf exec perform target operation badWords check runFrom run
     placeIn lowBytes over laidOver withWords lentBytes result expected
 worked = refl

@@ -9,6 +9,7 @@ use lib.Dec.{eqb}
 use Rattle.processor.specs.Answer.{faultOf}
 use Rattle.processor.specs.declared.answer.Answer.{Answer}
 use Rattle.processor.specs.declared.answer.Answer.the-variants.{Completed, Faulted}
+use Rattle.processor.specs.declared.answer.Fault.{Fault}
 use Rattle.processor.specs.declared.answer.Vector.the-variants.{InvalidOpcode, Protection, Page, Control}
 use Rattle.processor.specs.declared.state.State.{State}
 use Rattle.replay.specs.Codes.{codes}
@@ -120,263 +121,128 @@ callRelative a = 7 ∷ 5 ∷ a ∷ 0 ∷ []
 abbrev pub callAbsolute : ℕ → List ℕ
 callAbsolute a = 8 ∷ 5 ∷ a ∷ 0 ∷ []
 
+-- ---- the three ways that a row ends
+
+-- All of its instructions, so many, complete. In order: their count, the state, what the pages hold, the instructions; on the line after it the
+-- state after them and what they changed.
+abbrev pub completes : ℕ → State → List Word → List ℕ → State → List Word → Row
+completes count state holds words after changed =
+    record { pages = threePages; state = state; holds = holds; words = words; count = count; answer = Completed; after = after; changed = changed }
+
+-- The first instruction faults, and nothing changes. In order: the state, what the pages hold, the instructions, the fault.
+abbrev pub faults : State → List Word → List ℕ → Fault → Row
+faults state holds words fault =
+    record { pages = threePages; state = state; holds = holds; words = words; count = 0; answer = Faulted fault; after = state; changed = [] }
+
+-- The instructions of another row, which complete, and one more, which faults: all is as that row left it.
+abbrev pub thenFaults : Row → List ℕ → Fault → Row
+thenFaults row more fault =
+    record {
+      pages = row .pages;
+      state = row .state;
+      holds = row .holds;
+      words = row .words ++ more;
+      count = row .count;
+      answer = Faulted fault;
+      after = row .after;
+      changed = row .changed;
+    }
+
 -- ---- INCSSP
 
 -- P1. Of the count 103 only the low 8 bits count: three elements of 8 bytes are popped.
 abbrev pub p1 : Row
-p1 = record {
-  pages = threePages;
-  state = long 0x40_0000 0x1fe0 0;
-  holds = [];
-  words = incsspq 0x103;
-  count = 1;
-  answer = Completed;
-  after = long 0x40_0005 0x1ff8 0;
-  changed = [];
-}
+p1 = completes 1 (long 0x40_0000 0x1fe0 0) [] (incsspq 0x103)
+    (long 0x40_0005 0x1ff8 0) []
 
 -- P2. The element at SSP is loaded although none is to be popped, and no page is there.
 abbrev pub p2 : Row
-p2 = record {
-  pages = threePages;
-  state = long 0x40_0000 0x3000 0;
-  holds = [];
-  words = incsspq 0;
-  count = 0;
-  answer = Faulted (faultOf Page 0 0x3000);
-  after = long 0x40_0000 0x3000 0;
-  changed = [];
-}
+p2 = faults (long 0x40_0000 0x3000 0) [] (incsspq 0) (faultOf Page 0 0x3000)
 
 -- P3. Two elements end where the page ends. SSP may come to stand past it: nothing is loaded there.
 abbrev pub p3Two : Row
-p3Two = record {
-  pages = threePages;
-  state = long 0x40_0000 0x2ff0 0;
-  holds = [];
-  words = incsspq 2;
-  count = 1;
-  answer = Completed;
-  after = long 0x40_0005 0x3000 0;
-  changed = [];
-}
+p3Two = completes 1 (long 0x40_0000 0x2ff0 0) [] (incsspq 2)
+    (long 0x40_0005 0x3000 0) []
 
 -- P3. Of four, only the first and the last are loaded, so the fault names the last, 3008, and not 3000.
 abbrev pub p3Four : Row
-p3Four = record {
-  pages = threePages;
-  state = long 0x40_0000 0x2ff0 0;
-  holds = [];
-  words = incsspq 4;
-  count = 0;
-  answer = Faulted (faultOf Page 0 0x3008);
-  after = long 0x40_0000 0x2ff0 0;
-  changed = [];
-}
+p3Four = faults (long 0x40_0000 0x2ff0 0) [] (incsspq 4) (faultOf Page 0 0x3008)
 
 -- ---- RSTORSSP and SAVEPREVSSP in mode 2
 
 -- P4. A switch: the token at 2FF0 gives way to the old SSP marked as such, and SSP is where the token was.
 abbrev pub p4 : Row
-p4 = record {
-  pages = threePages;
-  state = long 0x40_0000 0x1ff0 0;
-  holds = qword 0x2ff0 0x2ff9 ∷ [];
-  words = rstorssp 0x2ff0;
-  count = 1;
-  answer = Completed;
-  after = long 0x40_0005 0x2ff0 0;
-  changed = qword 0x2ff0 0x1ff3 ∷ [];
-}
+p4 = completes 1 (long 0x40_0000 0x1ff0 0) (qword 0x2ff0 0x2ff9 ∷ []) (rstorssp 0x2ff0)
+    (long 0x40_0005 0x2ff0 0) (qword 0x2ff0 0x1ff3 ∷ [])
 
 -- P5. Its second half leaves a token below the old SSP, to come back by. It covers all 8 bytes that stood there.
 abbrev pub p5 : Row
-p5 = record {
-  pages = threePages;
-  state = long 0x40_0000 0x1ff0 0;
-  holds = qword 0x2ff0 0x2ff9 ∷ qword 0x1fe8 0x1122_3344_5566_7788 ∷ [];
-  words = rstorssp 0x2ff0 ++ saveprevssp;
-  count = 2;
-  answer = Completed;
-  after = long 0x40_000a 0x2ff8 0;
-  changed = qword 0x2ff0 0x1ff3 ∷ qword 0x1fe8 0x1ff1 ∷ [];
-}
+p5 = completes 2 (long 0x40_0000 0x1ff0 0) (qword 0x2ff0 0x2ff9 ∷ qword 0x1fe8 0x1122_3344_5566_7788 ∷ []) (rstorssp 0x2ff0 ++ saveprevssp)
+    (long 0x40_000a 0x2ff8 0) (qword 0x2ff0 0x1ff3 ∷ qword 0x1fe8 0x1ff1 ∷ [])
 
 -- P6. From an SSP that 8 does not divide, a hole of 4 zero bytes is left between the old SSP and the token, which still names 1FF4.
 -- The bytes from 1FF4 on stay.
 abbrev pub p6 : Row
-p6 = record {
-  pages = threePages;
-  state = long 0x40_0000 0x1ff4 0;
-  holds = qword 0x2ff0 0x2ff9 ∷ qword 0x1ff0 0x1122_3344_5566_7788 ∷ [];
-  words = rstorssp 0x2ff0 ++ saveprevssp;
-  count = 2;
-  answer = Completed;
-  after = long 0x40_000a 0x2ff8 0;
-  changed = qword 0x2ff0 0x1ff7 ∷ dword 0x1ff0 0 ∷ qword 0x1fe8 0x1ff5 ∷ [];
-}
+p6 = completes 2 (long 0x40_0000 0x1ff4 0) (qword 0x2ff0 0x2ff9 ∷ qword 0x1ff0 0x1122_3344_5566_7788 ∷ []) (rstorssp 0x2ff0 ++ saveprevssp)
+    (long 0x40_000a 0x2ff8 0) (qword 0x2ff0 0x1ff7 ∷ dword 0x1ff0 0 ∷ qword 0x1fe8 0x1ff5 ∷ [])
 
 -- P6. The way back finds the token, and CF says that there is a hole.
 abbrev pub p6Back : Row
-p6Back = record {
-  pages = threePages;
-  state = long 0x40_0000 0x1ff4 0;
-  holds = qword 0x2ff0 0x2ff9 ∷ qword 0x1ff0 0x1122_3344_5566_7788 ∷ [];
-  words = rstorssp 0x2ff0 ++ (saveprevssp ++ rstorssp 0x1fe8);
-  count = 3;
-  answer = Completed;
-  after = long 0x40_000f 0x1fe8 1;
-  changed = qword 0x2ff0 0x1ff7 ∷ dword 0x1ff0 0 ∷ qword 0x1fe8 0x2ffb ∷ [];
-}
+p6Back = completes 3 (long 0x40_0000 0x1ff4 0) (qword 0x2ff0 0x2ff9 ∷ qword 0x1ff0 0x1122_3344_5566_7788 ∷ []) (rstorssp 0x2ff0 ++ (saveprevssp ++ rstorssp 0x1fe8))
+    (long 0x40_000f 0x1fe8 1) (qword 0x2ff0 0x1ff7 ∷ dword 0x1ff0 0 ∷ qword 0x1fe8 0x2ffb ∷ [])
 
 -- P6. Mode 2 pops no hole, so nothing can follow: three instructions stand and are counted, the fourth changes nothing.
 abbrev pub p6Hole : Row
-p6Hole = record {
-  pages = threePages;
-  state = long 0x40_0000 0x1ff4 0;
-  holds = qword 0x2ff0 0x2ff9 ∷ qword 0x1ff0 0x1122_3344_5566_7788 ∷ [];
-  words = rstorssp 0x2ff0 ++ (saveprevssp ++ (rstorssp 0x1fe8 ++ saveprevssp));
-  count = 3;
-  answer = Faulted (faultOf Protection 0 0);
-  after = long 0x40_000f 0x1fe8 1;
-  changed = qword 0x2ff0 0x1ff7 ∷ dword 0x1ff0 0 ∷ qword 0x1fe8 0x2ffb ∷ [];
-}
+p6Hole = thenFaults p6Back saveprevssp (faultOf Protection 0 0)
 
 -- P7. A token with bit 1 set is the mark of a switch under way, not a place to resume, and it stays.
 abbrev pub p7 : Row
-p7 = record {
-  pages = threePages;
-  state = long 0x40_0000 0x1ff0 0;
-  holds = qword 0x2ff0 0x2ffb ∷ [];
-  words = rstorssp 0x2ff0;
-  count = 0;
-  answer = Faulted (faultOf Control 4 0);
-  after = long 0x40_0000 0x1ff0 0;
-  changed = [];
-}
+p7 = faults (long 0x40_0000 0x1ff0 0) (qword 0x2ff0 0x2ffb ∷ []) (rstorssp 0x2ff0) (faultOf Control 4 0)
 
 -- P8. Tokens lie at multiples of 8.
 abbrev pub p8 : Row
-p8 = record {
-  pages = threePages;
-  state = long 0x40_0000 0x1ff0 0;
-  holds = qword 0x2ff0 0x2ff9 ∷ [];
-  words = rstorssp 0x2ff4;
-  count = 0;
-  answer = Faulted (faultOf Protection 0 0);
-  after = long 0x40_0000 0x1ff0 0;
-  changed = [];
-}
+p8 = faults (long 0x40_0000 0x1ff0 0) (qword 0x2ff0 0x2ff9 ∷ []) (rstorssp 0x2ff4) (faultOf Protection 0 0)
 
 -- ---- WRSS
 
 -- P9. Writing needs a permission of its own, WR_SHSTK_EN.
 abbrev pub p9Forbidden : Row
-p9Forbidden = record {
-  pages = threePages;
-  state = long 0x40_0000 0x1ff0 0;
-  holds = [];
-  words = wrssd 0x2ff4 0x8877_6655_4433_2211;
-  count = 0;
-  answer = Faulted (faultOf InvalidOpcode 0 0);
-  after = long 0x40_0000 0x1ff0 0;
-  changed = [];
-}
+p9Forbidden = faults (long 0x40_0000 0x1ff0 0) [] (wrssd 0x2ff4 0x8877_6655_4433_2211) (faultOf InvalidOpcode 0 0)
 
 -- P9. With it the low 4 bytes of the value are written, and no more.
 abbrev pub p9Written : Row
-p9Written = record {
-  pages = threePages;
-  state = stateOf 2 3 0x40_0000 0x5010 0x1ff0 0;
-  holds = [];
-  words = wrssd 0x2ff4 0x8877_6655_4433_2211;
-  count = 1;
-  answer = Completed;
-  after = stateOf 2 3 0x40_0005 0x5010 0x1ff0 0;
-  changed = dword 0x2ff4 0x4433_2211 ∷ [];
-}
+p9Written = completes 1 (stateOf 2 3 0x40_0000 0x5010 0x1ff0 0) [] (wrssd 0x2ff4 0x8877_6655_4433_2211)
+    (stateOf 2 3 0x40_0005 0x5010 0x1ff0 0) (dword 0x2ff4 0x4433_2211 ∷ [])
 
 -- P9. Then 8 bytes at the same address, which 8 does not divide: what was written before stands.
 abbrev pub p9Aligned : Row
-p9Aligned = record {
-  pages = threePages;
-  state = stateOf 2 3 0x40_0000 0x5010 0x1ff0 0;
-  holds = [];
-  words = wrssd 0x2ff4 0x8877_6655_4433_2211 ++ wrssq 0x2ff4 0x8877_6655_4433_2211;
-  count = 1;
-  answer = Faulted (faultOf Protection 0 0);
-  after = stateOf 2 3 0x40_0005 0x5010 0x1ff0 0;
-  changed = dword 0x2ff4 0x4433_2211 ∷ [];
-}
+p9Aligned = thenFaults p9Written (wrssq 0x2ff4 0x8877_6655_4433_2211) (faultOf Protection 0 0)
 
 -- P9. An ordinary page is listed, but it is no shadow stack.
 abbrev pub p9Ordinary : Row
-p9Ordinary = record {
-  pages = threePages;
-  state = stateOf 2 3 0x40_0000 0x5010 0x1ff0 0;
-  holds = [];
-  words = wrssd 0x5000 0x8877_6655_4433_2211;
-  count = 0;
-  answer = Faulted (faultOf Page 0 0x5000);
-  after = stateOf 2 3 0x40_0000 0x5010 0x1ff0 0;
-  changed = [];
-}
+p9Ordinary = faults (stateOf 2 3 0x40_0000 0x5010 0x1ff0 0) [] (wrssd 0x5000 0x8877_6655_4433_2211) (faultOf Page 0 0x5000)
 
 -- ---- CALL
 
 -- P10. The address after the call goes on both stacks, and both pointers move.
 abbrev pub p10 : Row
-p10 = record {
-  pages = threePages;
-  state = long 0x40_0000 0x1ff0 0;
-  holds = qword 0x5008 0x1122_3344_5566_7788 ∷ qword 0x1fe8 0x1122_3344_5566_7788 ∷ [];
-  words = callRelative 0x10;
-  count = 1;
-  answer = Completed;
-  after = stateOf 2 1 0x40_0015 0x5008 0x1fe8 0;
-  changed = qword 0x5008 0x40_0005 ∷ qword 0x1fe8 0x40_0005 ∷ [];
-}
+p10 = completes 1 (long 0x40_0000 0x1ff0 0) (qword 0x5008 0x1122_3344_5566_7788 ∷ qword 0x1fe8 0x1122_3344_5566_7788 ∷ []) (callRelative 0x10)
+    (stateOf 2 1 0x40_0015 0x5008 0x1fe8 0) (qword 0x5008 0x40_0005 ∷ qword 0x1fe8 0x40_0005 ∷ [])
 
 -- P11. The lowest target that is not canonical.
 abbrev pub p11 : Row
-p11 = record {
-  pages = threePages;
-  state = long 0x40_0000 0x1ff0 0;
-  holds = [];
-  words = callAbsolute 0x0000_8000_0000_0000;
-  count = 0;
-  answer = Faulted (faultOf Protection 0 0);
-  after = long 0x40_0000 0x1ff0 0;
-  changed = [];
-}
+p11 = faults (long 0x40_0000 0x1ff0 0) [] (callAbsolute 0x0000_8000_0000_0000) (faultOf Protection 0 0)
 
 -- P12. The shadow push does not fit on the page, so the ordinary one, which would, is not made either.
 abbrev pub p12 : Row
-p12 = record {
-  pages = threePages;
-  state = long 0x40_0000 0x1004 0;
-  holds = qword 0x5008 0x1122_3344_5566_7788 ∷ [];
-  words = callRelative 0x10;
-  count = 0;
-  answer = Faulted (faultOf Page 0 0xffc);
-  after = long 0x40_0000 0x1004 0;
-  changed = [];
-}
+p12 = faults (long 0x40_0000 0x1004 0) (qword 0x5008 0x1122_3344_5566_7788 ∷ []) (callRelative 0x10) (faultOf Page 0 0xffc)
 
 -- ---- SAVEPREVSSP in mode 1
 
 -- P13. Mode 1 pops the hole: 8 bytes of token, then 4 of zero and no more. CF stays, and the token that is left has bit 0 clear.
 abbrev pub p13 : Row
-p13 = record {
-  pages = threePages;
-  state = stateOf 1 1 0x40_0000 0x5010 0x2fe0 1;
-  holds = qword 0x2fe0 0x1ff2 ∷ dword 0x2fe8 0 ∷ dword 0x2fec 0xffff_ffff ∷ qword 0x1fe8 0x1122_3344_5566_7788 ∷ [];
-  words = saveprevssp;
-  count = 1;
-  answer = Completed;
-  after = stateOf 1 1 0x40_0005 0x5010 0x2fec 1;
-  changed = qword 0x1fe8 0x1ff0 ∷ [];
-}
+p13 = completes 1 (stateOf 1 1 0x40_0000 0x5010 0x2fe0 1) (qword 0x2fe0 0x1ff2 ∷ dword 0x2fe8 0 ∷ dword 0x2fec 0xffff_ffff ∷ qword 0x1fe8 0x1122_3344_5566_7788 ∷ []) saveprevssp
+    (stateOf 1 1 0x40_0005 0x5010 0x2fec 1) (qword 0x1fe8 0x1ff0 ∷ [])
 
 -- ---- all of them
 

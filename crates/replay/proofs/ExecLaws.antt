@@ -12,15 +12,20 @@ use Rattle.processor.proofs.Laws.{continues, breaks}
 use Rattle.replay.specs.Instruction.{wellFormed}
 use Rattle.replay.specs.Permission.{hidden, shown}
 use Rattle.replay.specs.Codes.{codes}
-use Rattle.replay.specs.Exec.{InstructionSet, operationOf, exec, unhidden, perform}
+use Rattle.replay.specs.Exec.{InstructionSet, operationOf, exec, perform}
+use Rattle.replay.specs.Unhidden.{unhidden}
 use Rattle.replay.specs.declared.instruction.Instruction.{Instruction}
 
 -- what is handed back, from what the operation handed back
 abbrev pub backFrom : State → Step → Step
 backFrom before now = stepOf (unhidden before (now .state) (now .answer)) (now .bytes)
 
--- a program whose last state gets the permission bits of another: as the program itself, with the bits put back
-pub put-back : (look : Lookup) (p : Prog State) (s h : State) (bytes : List ℕ) → operate look (p >>= (λ t. done (shown s t))) s bytes ≡ backFrom s (operate look p h bytes)
+-- a program whose last state gets the permission bits of another
+abbrev pub putBack : Prog State → State → Prog State
+putBack p s = p >>= (λ t. done (shown s t))
+
+-- it does what the program does, with the bits put back
+pub put-back : (look : Lookup) (p : Prog State) (s h : State) (bytes : List ℕ) → operate look (putBack p s) s bytes ≡ backFrom s (operate look p h bytes)
 unfolding operate interp
 put-back look p s h bytes = go (interp look p bytes) refl
   where

@@ -1,4 +1,4 @@
 -- Laws of one instruction and of a run.
 
-mod ExecLaws
+pub mod ExecLaws
 mod RunLaws

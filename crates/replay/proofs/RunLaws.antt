@@ -5,12 +5,10 @@ use mathlib.Core.Path.{_≡_, _∙_}
 use native.Mathlib.Omega.{arith}
 use Rattle.memory.specs.Pages.{Lookup}
 use Rattle.processor.specs.Prog.{Step}
-use Rattle.processor.specs.declared.answer.Answer.the-variants.{Completed, Refused, Faulted}
-use Rattle.processor.specs.declared.answer.Fault.{Fault}
-use Rattle.processor.specs.declared.answer.Refusal.{Refusal}
+use Rattle.processor.specs.declared.answer.Answer.the-variants.{Completed}
 use Rattle.processor.specs.declared.state.State.{State}
 use Rattle.replay.specs.Exec.{InstructionSet, perform}
-use Rattle.replay.specs.Run.{onward, endsAt, runFrom}
+use Rattle.replay.specs.Run.{Run, onward, endsAt, runFrom}
 use Rattle.replay.specs.declared.instruction.Instruction.{Instruction}
 
 module _ (set : InstructionSet) (look : Lookup) (listed : ℕ → Instruction) (k n : ℕ) (s : State) (bytes : List ℕ) where
@@ -24,13 +22,9 @@ module _ (set : InstructionSet) (look : Lookup) (listed : ℕ → Instruction) (
   pub goes-on : k < n → (now : Step) → perform set look (listed k) s bytes ≡ now → now .answer ≡ Completed → runFrom set look listed k (n - k) s bytes ≡ runFrom set look listed (k + 1) (n - (k + 1)) (now .state) (now .bytes)
   goes-on h now e a = let one : k + 1 ≡ suc k = omega arith in turn h ∙ rw (e, a, one)
 
-  -- it is refused, and the run ends
-  pub ends-refused : k < n → (now : Step) → perform set look (listed k) s bytes ≡ now → (refusal : Refusal) → now .answer ≡ Refused refusal → runFrom set look listed k (n - k) s bytes ≡ endsAt k now
-  ends-refused h now e refusal a = turn h ∙ rw (e, a)
-
-  -- it faults, and the run ends
-  pub ends-faulted : k < n → (now : Step) → perform set look (listed k) s bytes ≡ now → (fault : Fault) → now .answer ≡ Faulted fault → runFrom set look listed k (n - k) s bytes ≡ endsAt k now
-  ends-faulted h now e fault a = turn h ∙ rw (e, a)
+  -- it does not, by whichever answer, and the run ends
+  pub ends : k < n → (now : Step) → perform set look (listed k) s bytes ≡ now → ((more end : Run) → onward (now .answer) more end ≡ end) → runFrom set look listed k (n - k) s bytes ≡ endsAt k now
+  ends h now e stops = turn h ∙ rw e (stops _ _)
 
 -- none is left
 pub at-end : (set : InstructionSet) (look : Lookup) (listed : ℕ → Instruction) (k n : ℕ) (s : State) (bytes : List ℕ) → (k < n → ⊥) → runFrom set look listed k (n - k) s bytes ≡ record { count = k; answer = Completed; state = s; bytes = bytes }

@@ -6,9 +6,7 @@ use mathlib.Core.List.{List}
 use Rattle.memory.specs.Pages.{Lookup}
 use Rattle.processor.specs.State.{permitted}
 use Rattle.processor.specs.Prog.{Prog, done, _>>=_, Step, operate}
-use Rattle.processor.specs.declared.answer.Answer.{Answer}
-use Rattle.processor.specs.declared.answer.Answer.the-variants.{Completed, Refused, Faulted}
-use Rattle.processor.specs.declared.outcome.Outcome.{Outcome}
+use Rattle.processor.specs.declared.answer.Answer.the-variants.{Refused}
 use Rattle.processor.specs.declared.answer.Refusal.{Refusal}
 use Rattle.processor.specs.declared.answer.Refusal.the-variants.{Instruction as BadForm}
 use Rattle.processor.specs.declared.state.State.{State}
@@ -29,12 +27,6 @@ operationOf set i allowed s = cond (isWrss i) (wrss (sizeOf i) allowed (i .a) (i
 -- what an instruction does: the permission bits are put back after it
 unfoldable pub exec : InstructionSet → Instruction → State → Prog State
 exec set i s = operationOf set i (permitted s) (hidden s) >>= (λ t. done (shown s t))
-
--- what is handed back, by an operation's answer: its state with the permission bits put back, or the state from before it
-abbrev pub unhidden : State → State → Answer → Outcome
-unhidden before after Completed = record { answer = Completed; state = shown before after }
-unhidden before after (Refused refusal) = record { answer = Refused refusal; state = before }
-unhidden before after (Faulted fault) = record { answer = Faulted fault; state = before }
 
 -- a refusal changes no register and no byte
 abbrev pub refused : Refusal → State → List ℕ → Step

@@ -14,21 +14,25 @@ instructionAt words k = record { code = getD words (4 * k) 0; length = getD word
 
 -- ---- which operation a code names
 
+-- its code is one of two
+unfoldable pub oneOf : Instruction → ℕ → ℕ → Bool
+oneOf i first second = eqb (i .code) first || eqb (i .code) second
+
 -- INCSSPD, INCSSPQ
-unfoldable pub isIncssp : Instruction → Bool
-isIncssp i = eqb (i .code) 1 || eqb (i .code) 2
+abbrev pub isIncssp : Instruction → Bool
+isIncssp i = oneOf i 1 2
 
 -- WRSSD, WRSSQ
-unfoldable pub isWrss : Instruction → Bool
-isWrss i = eqb (i .code) 5 || eqb (i .code) 6
+abbrev pub isWrss : Instruction → Bool
+isWrss i = oneOf i 5 6
 
 -- CALL, relative and absolute
-unfoldable pub isCall : Instruction → Bool
-isCall i = eqb (i .code) 7 || eqb (i .code) 8
+abbrev pub isCall : Instruction → Bool
+isCall i = oneOf i 7 8
 
 -- INCSSPQ and WRSSQ work on 8 bytes, INCSSPD and WRSSD on 4
-unfoldable pub isQuad : Instruction → Bool
-isQuad i = eqb (i .code) 2 || eqb (i .code) 6
+abbrev pub isQuad : Instruction → Bool
+isQuad i = oneOf i 2 6
 
 abbrev pub sizeOf : Instruction → Size
 sizeOf i = cond (isQuad i) Eight Four

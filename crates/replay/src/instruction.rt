@@ -2,7 +2,7 @@
 ghost use Prim.Native.Nat.{_+_, _*_, _<_};
 ghost use mathlib.Core.Path.{_≡_};
 ghost use lib.ListN.{length as count};
-ghost use Rattle.replay.specs.Instruction.{instructionAt, isIncssp, isWrss, isCall, isQuad, sizeOf, lengthFits, wordsFit, narrow as narrowOf, modeFits, wellFormed};
+ghost use Rattle.replay.specs.Instruction.{instructionAt, oneOf, isIncssp, isWrss, isCall, isQuad, sizeOf, lengthFits, wordsFit, narrow as narrowOf, modeFits, wellFormed};
 use memory::Size;
 
 // The first number of more than 32 bits.
@@ -31,28 +31,35 @@ pub(crate) fn nth(words: &[u64], k: usize) -> Instruction
 }
 
 impl Instruction {
+    // Whether its code is one of two.
+    fn one_of(self, first: u64, second: u64) -> bool
+        ensures { λ r. ⌜ r ≡ oneOf self first second ⌝ }
+    {
+        self.code == first || self.code == second
+    }
+
     pub(crate) fn is_incssp(self) -> bool
         ensures { λ r. ⌜ r ≡ isIncssp self ⌝ }
     {
-        self.code == 1 || self.code == 2
+        self.one_of(1, 2)
     }
 
     pub(crate) fn is_wrss(self) -> bool
         ensures { λ r. ⌜ r ≡ isWrss self ⌝ }
     {
-        self.code == 5 || self.code == 6
+        self.one_of(5, 6)
     }
 
     pub(crate) fn is_call(self) -> bool
         ensures { λ r. ⌜ r ≡ isCall self ⌝ }
     {
-        self.code == 7 || self.code == 8
+        self.one_of(7, 8)
     }
 
     fn is_quad(self) -> bool
         ensures { λ r. ⌜ r ≡ isQuad self ⌝ }
     {
-        self.code == 2 || self.code == 6
+        self.one_of(2, 6)
     }
 
     // How many bytes INCSSP and WRSS work on.

@@ -10,7 +10,7 @@ use Rattle.replay.specs.Run.{runFrom}
 use Rattle.replay.specs.Codes.{codes}
 use Rattle.replay.specs.Instruction.{instructionAt}
 use Rattle.memory.specs.Pages.{spot}
-use Rattle.replay.proofs.RunLaws.{goes-on, ends-refused, ends-faulted, at-end}
+use Rattle.replay.proofs.RunLaws.{goes-on, ends, at-end}
 use Rattle.replay.proofs.runs.walk.Statement.{statement}
 
 abbrev Inv-loop : tie.InvT-loop
@@ -47,7 +47,7 @@ same-length : tie.Need-same-length Inv-loop μ-loop
 same-length c = c .before .before .before .before .before .bytes .given ∙ c .before .before .before .before .before .before .before .before .before .before .loop .inv .1
 
 returns : tie.Need-returns Inv-loop μ-loop
-returns c = let inv = c .before .before .before .before .before .before .before .before .before .before .loop .inv in rw (← c .before .answer .given .1) (sym (inv .0 ∙ ends-refused _ _ _ _ _ _ _ (c .before .before .before .before .before .before .before .before .before .loop-test .taken) (stepOf (c .before .before .before .before .before .before .perform .result) (c .before .before .before .before .before .before .perform .last .1 .1 .1 .0)) (rw (← inv .1, ← c .before .before .before .before .before .before .before .before .nth .ensures) (sym (c .before .before .before .before .before .before .perform .ensures))) _ (c .before .answer .given .1)))
+returns c = let inv = c .before .before .before .before .before .before .before .before .before .before .loop .inv in rw (← c .before .answer .given .1) (sym (inv .0 ∙ ends _ _ _ _ _ _ _ (c .before .before .before .before .before .before .before .before .before .loop-test .taken) (stepOf (c .before .before .before .before .before .before .perform .result) (c .before .before .before .before .before .before .perform .last .1 .1 .1 .0)) (rw (← inv .1, ← c .before .before .before .before .before .before .before .before .nth .ensures) (sym (c .before .before .before .before .before .before .perform .ensures))) (λ more end. rw (c .before .answer .given .1))))
 
 enum-known-answer-2 : tie.Need-enum-known-answer-2 Inv-loop μ-loop
 enum-known-answer-2 c = search needs
@@ -56,7 +56,7 @@ same-length-2 : tie.Need-same-length-2 Inv-loop μ-loop
 same-length-2 c = c .before .before .before .before .before .bytes .given ∙ c .before .before .before .before .before .before .before .before .before .before .loop .inv .1
 
 returns-2 : tie.Need-returns-2 Inv-loop μ-loop
-returns-2 c = let inv = c .before .before .before .before .before .before .before .before .before .before .loop .inv in rw (← c .before .answer2 .given .1) (sym (inv .0 ∙ ends-faulted _ _ _ _ _ _ _ (c .before .before .before .before .before .before .before .before .before .loop-test .taken) (stepOf (c .before .before .before .before .before .before .perform .result) (c .before .before .before .before .before .before .perform .last .1 .1 .1 .0)) (rw (← inv .1, ← c .before .before .before .before .before .before .before .before .nth .ensures) (sym (c .before .before .before .before .before .before .perform .ensures))) _ (c .before .answer2 .given .1)))
+returns-2 c = let inv = c .before .before .before .before .before .before .before .before .before .before .loop .inv in rw (← c .before .answer2 .given .1) (sym (inv .0 ∙ ends _ _ _ _ _ _ _ (c .before .before .before .before .before .before .before .before .before .loop-test .taken) (stepOf (c .before .before .before .before .before .before .perform .result) (c .before .before .before .before .before .before .perform .last .1 .1 .1 .0)) (rw (← inv .1, ← c .before .before .before .before .before .before .before .before .nth .ensures) (sym (c .before .before .before .before .before .before .perform .ensures))) (λ more end. rw (c .before .answer2 .given .1))))
 
 same-length-3 : tie.Need-same-length-3 Inv-loop μ-loop
 same-length-3 c = c .before .loop .inv .1
