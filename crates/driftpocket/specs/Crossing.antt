@@ -2,13 +2,14 @@
 use Prim.Native.Nat.{ℕ, _+_}
 use mathlib.Core.Bool.{false, cond}
 use mathlib.Core.List.{List, [], _∷_, _++_}
-use lib.ListN.{length, getD, drop}
+use lib.ListN.{length, drop}
 use lib.Dec.{eqb, ltb}
 use Rattle.processor.specs.Answer.{vectorNumber, refusalNumber, reportOf}
 use Rattle.processor.specs.declared.answer.Answer.{Answer}
 use Rattle.processor.specs.declared.answer.Answer.the-variants.{Completed, Refused, Faulted}
 use Rattle.processor.specs.declared.answer.Report.{Report}
 use Rattle.processor.specs.declared.state.State.{State}
+use Rattle.replay.specs.Layout.{stateOf}
 use Rattle.replay.specs.Codes.{codes}
 use Rattle.replay.specs.Run.{check, Run, run}
 use Rattle.replay.specs.declared.steps.Tested.{Tested}
@@ -16,24 +17,9 @@ use Rattle.replay.specs.declared.steps.Tested.the-variants.{Passed, Failed}
 
 -- ---- layout
 
--- the fields of a state, in the order of the rules
+-- the fields of a state, in the order of the rules; `stateOf` reads them
 abbrev pub fields : ℕ
 fields = 10
-
-unfoldable pub stateOf : List ℕ → State
-stateOf words =
-    record {
-      mode = getD words 0 0;
-      cpl = getD words 1 0;
-      cet = getD words 2 0;
-      ucet = getD words 3 0;
-      scet = getD words 4 0;
-      ip = getD words 5 0;
-      sp = getD words 6 0;
-      ssp = getD words 7 0;
-      flags = getD words 8 0;
-      limit = getD words 9 0;
-    }
 
 abbrev pub stateWords : State → List ℕ
 stateWords s = s .mode ∷ s .cpl ∷ s .cet ∷ s .ucet ∷ s .scet ∷ s .ip ∷ s .sp ∷ s .ssp ∷ s .flags ∷ s .limit ∷ []

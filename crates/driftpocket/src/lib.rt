@@ -4,7 +4,7 @@ ghost use Prim.Native.Nat.{_≤_};
 ghost use mathlib.Core.Bool.{false};
 ghost use mathlib.Core.Path.{_≡_};
 ghost use lib.ListN.{length as count};
-ghost use Rattle.driftpocket.specs.Crossing.{stateOf, stateWords, reportWords, over, numberOf as numberFor, testedAs, answered, crossed};
+ghost use Rattle.driftpocket.specs.Crossing.{stateWords, reportWords, over, numberOf as numberFor, testedAs, answered, crossed};
 ghost use Rattle.processor.specs.Answer.{reportOf};
 ghost use Rattle.replay.specs.Run.{check as checkOf};
 use processor::Answer;
@@ -19,25 +19,6 @@ const REPORT: usize = 5;
 
 // What is returned where a report is too short.
 const TOO_SHORT: u64 = 8;
-
-// The state that ten words hold.
-fn read_state(words: &[u64]) -> State
-    requires { ⌜ count (now words) ≡ 10 ⌝ }
-    ensures { λ r. ⌜ r ≡ stateOf (now (words .entry)) ⌝ }
-{
-    State {
-        mode: words[0],
-        cpl: words[1],
-        cet: words[2],
-        ucet: words[3],
-        scet: words[4],
-        ip: words[5],
-        sp: words[6],
-        ssp: words[7],
-        flags: words[8],
-        limit: words[9],
-    }
-}
 
 // Copies words over the first of a buffer.
 fn copy(words: &[u64], buffer: &mut [u64])
@@ -129,7 +110,7 @@ pub extern "C" fn driftpocket_run(
         write_report(0, answer, report);
         return number(answer);
     }
-    let replayed = replay::run(read_state(state), pages, bytes, words);
+    let replayed = replay::run(replay::state_of(state), pages, bytes, words);
     let answer = replayed.answer;
     write_state(replayed.state, state);
     write_report(replayed.count, answer, report);

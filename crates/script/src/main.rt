@@ -13,7 +13,7 @@ ghost use Rattle.memory.specs.declared.address.Width.the-variants.{Bits64};
 ghost use Rattle.script.specs.Line.{Numbers};
 ghost use Rattle.script.specs.Access.{IsKind, IsWidth, IsSize, IsAccess, anyByte};
 ghost use Rattle.script.specs.Lent.{lentByte, Fresh, entriesOf, Lends, Bounded, Room};
-ghost use Rattle.script.specs.Operation.{stateOf, instructionOf};
+ghost use Rattle.script.specs.Operation.{instructionOf};
 
 mod line;
 
@@ -321,24 +321,6 @@ fn answer_word(address: u64, value: u64, pages: &[u64], bytes: &mut [u8]) {
 
 // ---- answering a line about an operation
 
-// The state whose fields are a line's numbers.
-fn state_of(numbers: &[u64; NUMBER_LIMIT]) -> State
-    ensures { λ r. ⌜ r ≡ stateOf (now (numbers .entry)) ⌝ }
-{
-    State {
-        mode: numbers[0],
-        cpl: numbers[1],
-        cet: numbers[2],
-        ucet: numbers[3],
-        scet: numbers[4],
-        ip: numbers[5],
-        sp: numbers[6],
-        ssp: numbers[7],
-        flags: numbers[8],
-        limit: numbers[9],
-    }
-}
-
 fn answer_state(state: State) {
     if state.in_range() {
         print_with(b"refusal ", 0);
@@ -430,7 +412,7 @@ fn answer(
             list = answer_pages(fill, numbers, count, pages, bytes);
         }
         Command::SetState => {
-            state = state_of(numbers);
+            state = replay::state_of(numbers);
             answer_state(state);
         }
         Command::Sum => answer_sum(width(numbers[0]), numbers[1], numbers[2]),
@@ -495,7 +477,7 @@ fn first_session() -> Session
         fill: Fill::Placed,
         refusal: 0,
     };
-    let state = state_of(&[0; NUMBER_LIMIT]);
+    let state = replay::state_of(&[0; NUMBER_LIMIT]);
     Session { list, state }
 }
 

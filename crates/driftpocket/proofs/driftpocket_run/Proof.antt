@@ -26,8 +26,8 @@ returns-2 : tie.Need-returns-2
 unfolding crossed
 returns-2 c = rw (le-ltb _ _ (c .before .before .before .before .before .before .before .if1 .left), ne-eqb _ _ (c .before .before .before .before .before .before .if2 .taken), c .number .ensures, c .before .before .before .write-report .ensures, c .before .before .before .before .before .no-state .ensures)
 
-read-state-requires : tie.Need-read-state-requires
-read-state-requires c κs = search needs
+state-of-requires : tie.Need-state-of-requires
+state-of-requires c κs = search needs
 
 run-requires : tie.Need-run-requires
 run-requires c κs = search needs
@@ -52,7 +52,7 @@ same-length-4 c = search needs
 
 returns-3 : tie.Need-returns-3
 unfolding crossed
-returns-3 c = rw (le-ltb _ _ (c .before .before .before .before .before .before .before .before .before .before .before .before .before .before .before .before .if1 .left), eq-eqb _ _ (c .before .before .before .before .before .before .before .before .before .before .before .before .before .before .before .if2 .left), c .number2 .ensures, c .before .before .before .write-report2 .ensures, c .before .before .before .before .before .before .before .write-state .ensures, over-exactly (stateWords (c .before .before .before .before .before .before .before .before .before .before .before .run .result .state)) (c .before .before .before .before .before .before .before .before .before .before .before .before .before .before .before .before .before .before .before .before .before .before .args .state .now) (c .before .before .before .before .before .before .before .before .before .before .before .before .before .before .before .if2 .left), ← c .before .before .before .before .before .before .before .before .before .before .before .before .before .read-state .ensures, ← c .before .before .before .before .before .before .before .before .before .before .before .run .ensures)
+returns-3 c = rw (le-ltb _ _ (c .before .before .before .before .before .before .before .before .before .before .before .before .before .before .before .before .if1 .left), eq-eqb _ _ (c .before .before .before .before .before .before .before .before .before .before .before .before .before .before .before .if2 .left), c .number2 .ensures, c .before .before .before .write-report2 .ensures, c .before .before .before .before .before .before .before .write-state .ensures, over-exactly (stateWords (c .before .before .before .before .before .before .before .before .before .before .before .run .result .state)) (c .before .before .before .before .before .before .before .before .before .before .before .before .before .before .before .before .before .before .before .before .before .before .args .state .now) (c .before .before .before .before .before .before .before .before .before .before .before .before .before .before .before .if2 .left), ← c .before .before .before .before .before .before .before .before .before .before .before .before .before .state-of .ensures, ← c .before .before .before .before .before .before .before .before .before .before .before .run .ensures)
 
 pub driftpocket-run-spec : {M : Type 1} → statement M
 driftpocket-run-spec =
@@ -64,7 +64,7 @@ driftpocket-run-spec =
     number-requires
     same-length
     returns-2
-    read-state-requires
+    state-of-requires
     run-requires
     write-state-requires
     write-report-requires-2
