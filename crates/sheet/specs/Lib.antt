@@ -1,0 +1,6 @@
+-- What a reader of the sheet's contracts must believe, to be read beside docs/RULES.md, "Run sheets", in this order. Reading is pinned to
+-- `text` by theorems (crates/sheet_claims). How to read it: memory/specs/Lib.antt.
+pub mod Digits
+pub mod Lines
+pub mod Sheets
+pub mod Reading

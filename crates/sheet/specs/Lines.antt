@@ -1,0 +1,95 @@
+-- The lines of a sheet (docs/RULES.md, "Run sheets"): a name, then its numbers, each behind a tab, then a line feed. What holds of
+-- one kind of line holds of all five, so everything here takes the kind. Assumes nothing.
+use Prim.Native.Nat.{ℕ, zero, suc, _+_, _*_}
+use mathlib.Core.Bool.{Bool, true, false, cond, _&&_}
+use mathlib.Core.List.{List, [], _∷_, _++_}
+use lib.ListN.{length, take, drop, replicate}
+use lib.Dec.{eqb}
+use Rattle.sheet.specs.Digits.{tab, lineFeed, letterX, digits, number, isDigit, valueOf}
+use Rattle.sheet.specs.declared.line.Line.{Line}
+use Rattle.sheet.specs.declared.line.Line.the-variants.{Sheet, State, Page, Word, Do}
+
+-- ---- writing a line
+
+-- "sheet", "state", "page", "word" and "do"
+abbrev pub name : Line → List ℕ
+name Sheet = 115 ∷ 104 ∷ 101 ∷ 101 ∷ 116 ∷ []
+name State = 115 ∷ 116 ∷ 97 ∷ 116 ∷ 101 ∷ []
+name Page = 112 ∷ 97 ∷ 103 ∷ 101 ∷ []
+name Word = 119 ∷ 111 ∷ 114 ∷ 100 ∷ []
+name Do = 100 ∷ 111 ∷ []
+
+-- how many numbers a line has: the version; a state's ten fields; a page's entry; an address and the value there; an instruction's four words
+abbrev pub fieldCount : Line → ℕ
+fieldCount Sheet = 1
+fieldCount State = 10
+fieldCount Page = 1
+fieldCount Word = 2
+fieldCount Do = 4
+
+unfoldable pub fields : List ℕ → List ℕ
+fields [] = []
+fields (v ∷ vs) = tab ∷ (number v ++ fields vs)
+
+unfoldable pub line : Line → List ℕ → List ℕ
+line kind vs = name kind ++ (fields vs ++ (lineFeed ∷ []))
+
+-- ---- a text and its lines
+
+unfoldable pub joined : List (List ℕ) → List ℕ
+joined [] = []
+joined (l ∷ ls) = l ++ joined ls
+
+-- a character put before the first line
+abbrev pub before : ℕ → List (List ℕ) → List (List ℕ)
+before c [] = (c ∷ []) ∷ []
+before c (l ∷ ls) = (c ∷ l) ∷ ls
+
+-- A text in lines, each with the line feed that ends it; what follows the last line feed is a line too, where there is anything.
+unfoldable pub lines : List ℕ → List (List ℕ)
+lines [] = []
+lines (c ∷ cs) = cond (eqb c lineFeed) ((c ∷ []) ∷ lines cs) (before c (lines cs))
+
+-- ---- reading a line
+
+-- a mark that stands for any digit: #
+abbrev pub anyDigit : ℕ
+anyDigit = 35
+
+unfoldable pub fieldForms : ℕ → List ℕ
+fieldForms zero = []
+fieldForms (suc n) = tab ∷ letterX ∷ (replicate digits anyDigit ++ fieldForms n)
+
+-- what every line of a kind looks like
+unfoldable pub form : Line → List ℕ
+form kind = name kind ++ (fieldForms (fieldCount kind) ++ (lineFeed ∷ []))
+
+abbrev pub fitsMark : ℕ → ℕ → Bool
+fitsMark mark c = cond (eqb mark anyDigit) (isDigit c) (eqb c mark)
+
+-- a text that begins with this form
+unfoldable pub begins : List ℕ → List ℕ → Bool
+begins [] text = true
+begins (mark ∷ marks) [] = false
+begins (mark ∷ marks) (c ∷ cs) = fitsMark mark c && begins marks cs
+
+-- how long every line of a kind is
+abbrev pub width : Line → ℕ
+width Sheet = 24
+width State = 186
+width Page = 23
+width Word = 41
+width Do = 75
+
+-- a line is of a kind: it has the form, to its last byte
+unfoldable pub isLine : Line → List ℕ → Bool
+isLine kind l = begins (form kind) l && eqb (length l) (width kind)
+
+-- the n numbers whose tabs begin here
+unfoldable pub valuesIn : ℕ → List ℕ → List ℕ
+valuesIn zero cs = []
+valuesIn (suc n) cs = valueOf (take digits (drop 2 cs)) ∷ valuesIn n (drop 18 cs)
+
+-- the numbers of a line
+unfoldable pub values : Line → List ℕ → List ℕ
+values kind l = valuesIn (fieldCount kind) (drop (length (name kind)) l)

@@ -1,0 +1,124 @@
+-- Reading a sheet: from its lines, stage by stage; each stage takes lines while they are its own, and the first line that is left over
+-- is refused. That this is the inverse of `text`, and that the refused line is the first that no sheet has, is proved
+-- (crates/sheet_claims), so it need not be believed. Assumes nothing.
+use Prim.Native.Nat.{ℕ, zero, suc, _+_, _-_, _*_, _/_, _%_}
+use mathlib.Core.Bool.{Bool, true, false, not, cond, _&&_}
+use mathlib.Core.List.{List, [], _∷_, _++_}
+use lib.ListN.{length, getD, take, drop}
+use lib.Dec.{eqb, leb}
+use Rattle.memory.specs.Pages.{pageOf}
+use Rattle.sheet.specs.Lines.{isLine, values, lines}
+use Rattle.sheet.specs.Sheets.{Page, Saved, frameOf, slots, version}
+use Rattle.sheet.specs.declared.line.Line.{Line}
+use Rattle.sheet.specs.declared.line.Line.the-variants.{Sheet, State as StateLine, Page as PageLine, Word, Do}
+
+-- what a text is: a saved run, or no sheet, with the number of the refused line
+pub data Parsed : Type 0 where
+  sheet : Saved → Parsed
+  noSheet : ℕ → Parsed
+
+-- the i-th number of a line of a kind
+abbrev pub value : Line → ℕ → List ℕ → ℕ
+value kind i l = getD (values kind l) i 0
+
+-- the next line, or an empty one
+abbrev pub next : List (List ℕ) → List ℕ
+next ls = getD ls 0 []
+
+-- ---- sheet and state
+
+unfoldable pub isHead : List ℕ → Bool
+isHead l = isLine Sheet l && eqb (value Sheet 0 l) version
+
+-- ---- pages
+
+-- how many lines are pages in ascending order, none below the frame `least`
+unfoldable pub pageCount : ℕ → List (List ℕ) → ℕ
+pageCount least [] = 0
+pageCount least (l ∷ ls) =
+    cond (isLine PageLine l && leb least (frameOf (value PageLine 0 l))) (suc (pageCount (suc (frameOf (value PageLine 0 l))) ls)) 0
+
+-- the first numbers of n lines of a kind, four for an instruction
+unfoldable pub numbers : Line → List (List ℕ) → List ℕ
+numbers kind [] = []
+numbers kind (l ∷ ls) = values kind l ++ numbers kind ls
+
+-- ---- words
+
+-- the line gives a value, not 0, to this address
+unfoldable pub isWord : ℕ → List ℕ → Bool
+isWord address l = isLine Word l && (eqb (value Word 0 l) address && not (eqb (value Word 1 l) 0))
+
+-- the value at an address: that of the next line, if it is this address's, else 0
+unfoldable pub slotValue : ℕ → List (List ℕ) → ℕ
+slotValue address ls = cond (isWord address (next ls)) (value Word 1 (next ls)) 0
+
+-- the lines left
+unfoldable pub pastSlot : ℕ → List (List ℕ) → List (List ℕ)
+pastSlot address ls = cond (isWord address (next ls)) (drop 1 ls) ls
+
+-- the n lowest bytes of a number, low byte first
+unfoldable pub littleBytes : ℕ → ℕ → List ℕ
+littleBytes zero v = []
+littleBytes (suc n) v = v % 256 ∷ littleBytes n (v / 256)
+
+-- the bytes of n aligned values of 8, from an address on
+unfoldable pub slotBytes : ℕ → ℕ → List (List ℕ) → List ℕ
+slotBytes address zero ls = []
+slotBytes address (suc n) ls = littleBytes 8 (slotValue address ls) ++ slotBytes (address + 8) n (pastSlot address ls)
+
+-- the lines left after them
+unfoldable pub pastSlots : ℕ → ℕ → List (List ℕ) → List (List ℕ)
+pastSlots address zero ls = ls
+pastSlots address (suc n) ls = pastSlots (address + 8) n (pastSlot address ls)
+
+-- all pages of these entries
+unfoldable pub pagesIn : List ℕ → List (List ℕ) → List Page
+pagesIn [] ls = []
+pagesIn (entry ∷ entries) ls =
+    record { entry = entry; bytes = slotBytes (pageOf entry) slots ls } ∷ pagesIn entries (pastSlots (pageOf entry) slots ls)
+
+unfoldable pub pastPages : List ℕ → List (List ℕ) → List (List ℕ)
+pastPages [] ls = ls
+pastPages (entry ∷ entries) ls = pastPages entries (pastSlots (pageOf entry) slots ls)
+
+-- ---- instructions
+
+unfoldable pub doCount : List (List ℕ) → ℕ
+doCount [] = 0
+doCount (l ∷ ls) = cond (isLine Do l) (suc (doCount ls)) 0
+
+-- ---- a whole sheet
+
+-- how the lines after `sheet` and `state` are shared out
+pub record Stages : Type 0 where
+  pub entries : List ℕ
+  pub pages : List Page
+  pub words : List ℕ
+  pub left : List (List ℕ)
+
+abbrev pub doStage : List ℕ → List Page → List (List ℕ) → Stages
+doStage entries pages ls = record { entries = entries; pages = pages; words = numbers Do (take (doCount ls) ls); left = drop (doCount ls) ls }
+
+abbrev pub wordStage : List ℕ → List (List ℕ) → Stages
+wordStage entries ls = doStage entries (pagesIn entries ls) (pastPages entries ls)
+
+unfoldable pub stages : List (List ℕ) → Stages
+stages ls = wordStage (numbers PageLine (take (pageCount 0 ls) ls)) (drop (pageCount 0 ls) ls)
+
+-- nothing may be left over; `all` is how many lines there are
+abbrev pub finished : List ℕ → ℕ → Stages → Parsed
+finished state all s =
+    cond (eqb (length (s .left)) 0) (sheet (record { state = state; pages = s .pages; words = s .words }))
+    (noSheet (suc (all - length (s .left))))
+
+unfoldable pub parsedLines : List (List ℕ) → Parsed
+parsedLines ls =
+    cond (isHead (next ls))
+    (cond (isLine StateLine (next (drop 1 ls)))
+    (finished (values StateLine (next (drop 1 ls))) (length ls) (stages (drop 2 ls)))
+    (noSheet 2))
+    (noSheet 1)
+
+unfoldable pub parsed : List ℕ → Parsed
+parsed t = parsedLines (lines t)
