@@ -4,3 +4,4 @@ pub mod Digits
 pub mod Lines
 pub mod Sheets
 pub mod Reading
+pub mod Buffers

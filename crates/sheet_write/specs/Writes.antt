@@ -1,0 +1,40 @@
+-- Writing a run as a sheet (docs/RULES.md, "Run sheets"): the answer, and what the text's buffer holds after it. Assumes nothing.
+use Prim.Native.Nat.{ℕ}
+use mathlib.Core.Bool.{Bool, cond, _&&_}
+use mathlib.Core.List.{List}
+use lib.ListN.{length}
+use lib.Dec.{eqb, leb}
+use Rattle.processor.specs.State.{inRange}
+use Rattle.processor.specs.declared.answer.Refusal.{Refusal}
+use Rattle.replay.specs.Layout.{stateOf}
+use Rattle.replay.specs.Run.{check}
+use Rattle.replay.specs.declared.steps.Tested.{Tested}
+use Rattle.replay.specs.declared.steps.Tested.the-variants.{Passed, Failed}
+use Rattle.sheet.specs.Sheets.{savedOf, text}
+use Rattle.sheet.specs.Buffers.{laid}
+use Rattle.sheet_write.specs.declared.write.Writing.{Writing}
+use Rattle.sheet_write.specs.declared.write.Writing.the-variants.{Done, Refused, TooLong}
+
+-- the answer, and what the text's buffer holds
+pub record Written : Type 0 where
+  pub answer : Writing
+  pub text : List ℕ
+
+-- a state of ten fields, each in its range
+unfoldable pub goodState : List ℕ → Bool
+goodState state = eqb (length state) 10 && inRange (stateOf state)
+
+-- a text at the front of its buffer, where it fits; what lies past it stays
+unfoldable pub printed : List ℕ → List ℕ → Written
+printed whole out =
+    cond (leb (length whole) (length out)) (record { answer = Done (length whole); text = laid out 0 whole })
+    (record { answer = TooLong (length whole); text = out })
+
+abbrev pub byTest : Tested → List ℕ → List ℕ → Written
+byTest Passed whole out = printed whole out
+byTest (Failed refusal) whole out = record { answer = Refused refusal; text = out }
+
+-- The refusals of a run first, but 6, then refusal 8. A refused write leaves the buffer as it was.
+unfoldable pub writes : List ℕ → List ℕ → List ℕ → List ℕ → List ℕ → Written
+writes state pages bytes words out =
+    byTest (check pages (length bytes) (goodState state) (length words)) (text (savedOf state pages bytes words)) out
