@@ -1,5 +1,6 @@
 // Reading a run sheet into lent buffers.
 mod read;
+mod scan;
 
 pub use read::Reading;
 pub use read::Sizes;
