@@ -2,3 +2,4 @@
 mod Leads
 mod Places
 mod Stages
+mod Pages

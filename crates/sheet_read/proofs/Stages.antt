@@ -144,14 +144,14 @@ module _ (address : ℕ) (ls : List (List ℕ)) where
       go false h = rw (no-line h) (lead-none Word ls)
 
 -- n values take as many lines as are counted
-slots-past : (address n : ℕ) (ls : List (List ℕ)) → pastSlots address n ls ≡ drop (slotCount address n ls) ls
+pub slots-past : (address n : ℕ) (ls : List (List ℕ)) → pastSlots address n ls ≡ drop (slotCount address n ls) ls
 unfolding pastSlots slotCount
 slots-past address zero ls = refl
 slots-past address (suc n) ls =
     let more : ℕ = slotCount (address + 8) n (pastSlot address ls) in
     slots-past (address + 8) n (pastSlot address ls) ∙ (ap (drop more) (slot-past address ls) ∙ drop-drop more (lineCount (slotValue address ls)) ls)
 
-lead-slots : (address n : ℕ) (ls : List (List ℕ)) → Lead Word (slotCount address n ls) ls
+pub lead-slots : (address n : ℕ) (ls : List (List ℕ)) → Lead Word (slotCount address n ls) ls
 unfolding slotCount
 lead-slots address zero ls = lead-none Word ls
 lead-slots address (suc n) ls =
