@@ -3,5 +3,6 @@
 pub mod BufferLaws
 pub mod DigitLaws
 pub mod LineLaws
+mod Fields
 mod Forms
 mod Turns
