@@ -9,13 +9,15 @@ use native.Mathlib.Omega.{arith}
 use lib.Dec.{lit<}
 use lib.ListN.{length, getD, take, drop, set, length-append, length-drop, drop-of-length-le}
 use lib.Seq.{take-all, lt-length-set, drop-cons, getD-set-same, take-set-le, drop-set-lt}
-use Rattle.sheet.specs.Digits.{digits, digit, digitValue, hex, number, tab, valueFrom}
-use Rattle.sheet.specs.Lines.{begins, fitsMark, fields, form}
+use Rattle.sheet.specs.Digits.{digit, digitValue, hex, number, tab, lineFeed, valueFrom}
+use Rattle.sheet.specs.Lines.{name, begins, fitsMark, fields, form, line}
 use Rattle.sheet.specs.declared.line.Line.{Line}
 use Rattle.sheet.specs.declared.line.Line.the-variants.{Sheet, State, Page, Word, Do}
-use Rattle.sheet.specs.Buffers.{laid}
-use Rattle.sheet.proofs.BufferLaws.{laid-nil, laid-turn, set-laid}
+use Rattle.sheet.specs.Buffers.{laid, laidIf}
+use Rattle.sheet.proofs.BufferLaws.{length-laid, laid-nil, laid-turn, set-laid}
 use Rattle.sheet.proofs.DigitLaws.{hex-length, number-length}
+use Rattle.sheet.proofs.Fields.{fields-length}
+use borrow.Author.Tests.{le-leb, lt-leb}
 
 -- ---- a form against a text
 
@@ -90,7 +92,7 @@ laid-last out at piece x room =
     let q : ℕ = at + length piece in
     let front : take at (set out q x) ≡ take at out = take-set-le at out q x (omega arith) in
     let back : drop q (set out q x) ≡ x ∷ drop (suc q) out =
-      drop-cons (set out q x) q 0 (lt-length-set out q x room) ∙ (ap (λ (n : ℕ). n ∷ drop (suc q) (set out q x)) (getD-set-same out q x 0 room) ∙ ap (λ (l : List ℕ). x ∷ l) (drop-set-lt (suc q) out q x (omega arith)))
+    drop-cons (set out q x) q 0 (lt-length-set out q x room) ∙ (ap (λ (n : ℕ). n ∷ drop (suc q) (set out q x)) (getD-set-same out q x 0 room) ∙ ap (λ (l : List ℕ). x ∷ l) (drop-set-lt (suc q) out q x (omega arith)))
     in
     let long : at + length (piece ++ (x ∷ [])) ≡ suc q = rw (length-append piece (x ∷ [])) (omega arith) in
     rw (front, back, long, append-assoc piece (x ∷ []) (drop (suc q) out))
@@ -124,3 +126,28 @@ fields-turn out at values i more room =
 pub fields-end : (out : List ℕ) (at : ℕ) (values : List ℕ) (i : ℕ) → length values ≤ i → laid out at (fields (drop i values)) ≡ out
 unfolding fields
 fields-end out at values i end = rw (drop-of-length-le values end) (laid-nil out at)
+
+-- ---- a line
+
+pub line-long : (kind : Line) (vs : List ℕ) → length (line kind vs) ≡ length (name kind) + (18 * length vs + 1)
+unfolding line
+line-long kind vs = rw (length-append (name kind) (fields vs ++ (lineFeed ∷ [])), length-append (fields vs) (lineFeed ∷ []), fields-length vs)
+
+-- a line that does not fit
+pub line-out : (out : List ℕ) (at : ℕ) (kind : Line) (vs : List ℕ) → length out < at + (length (name kind) + (18 * length vs + 1)) → out ≡ laidIf out at (line kind vs)
+unfolding laidIf
+line-out out at kind vs long = rw (line-long kind vs, lt-leb (at + (length (name kind) + (18 * length vs + 1))) (length out) long)
+
+-- a line that fits, as it is laid: its name, its fields, the line feed
+pub line-laid : (out : List ℕ) (at : ℕ) (kind : Line) (vs : List ℕ) (named ended : ℕ) → named ≡ length (name kind) → ended ≡ named + 18 * length vs
+    → at + (ended + 1) ≤ length out
+    → laid (laid (laid out at (name kind)) (at + named) (fields vs)) (at + ended) (lineFeed ∷ []) ≡ laidIf out at (line kind vs)
+unfolding laidIf line
+line-laid out at kind vs named ended is-named is-ended room =
+    let whole : at + length (name kind ++ (fields vs ++ (lineFeed ∷ []))) ≤ length out
+    = rw (length-append (name kind) (fields vs ++ (lineFeed ∷ [])), length-append (fields vs) (lineFeed ∷ []), fields-length vs) (omega arith)
+    in
+    let kept : length (laid out at (name kind)) ≡ length out = length-laid out at (name kind) (omega arith) in
+    let fits : at + named + length (fields vs) ≤ length (laid out at (name kind)) = rw (kept, fields-length vs) (omega arith) in
+    let last : at + named + length (fields vs) ≡ at + ended = rw (fields-length vs) (omega arith) in
+    rw (le-leb (at + length (name kind ++ (fields vs ++ (lineFeed ∷ [])))) (length out) whole) (rw (laid-turn out at (name kind) (fields vs ++ (lineFeed ∷ [])) (omega arith), ← is-named, laid-turn (laid out at (name kind)) (at + named) (fields vs) (lineFeed ∷ []) fits, last))

@@ -75,18 +75,18 @@ impl Line {
     pub fn put(self, values: &[u64], text: &mut [u8], at: usize)
         ensures { λ _. ⌜ now (text .exit) ≡ laidIf (now (text .entry)) at (lineOf self (now (values .entry))) ⌝ }
     {
-        if text.len() < at {
+        if text.len() <= at {
             return;
         }
-        let room = text.len() - at;
-        if room / 18 < values.len() {
-            return;
-        }
+        let room = text.len() - at - 1;
         let named = self.first() - 2;
-        let ended = named + 18 * values.len();
-        if room <= ended {
+        if room < named {
             return;
         }
+        if (room - named) / 18 < values.len() {
+            return;
+        }
+        let ended = named + 18 * values.len();
         self.put_name(text, at);
         put_fields(values, text, at + named);
         copy(b"\n", text, at + ended);

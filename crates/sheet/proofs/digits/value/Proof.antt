@@ -38,7 +38,7 @@ loop-less : tie.Need-loop-less Inv-loop μ-loop
 loop-less c = omega arith
 
 loop-again : tie.Need-loop-again Inv-loop μ-loop
-loop-again c = 
+loop-again c =
     let small = digit-below (getD (c .before .before .before .before .before .args .digits .now) (c .before .before .before .loop .i) 0) in
     rw (c .digit-value .ensures) (c .before .before .before .loop .inv .0 ∙ value-turn _ _ _ (c .before .before .loop-test .taken), value-grows _ _ _ (c .before .before .before .loop .inv .1) small)
 

@@ -38,7 +38,7 @@ loop-less : tie.Need-loop-less Inv-loop μ-loop
 loop-less c = omega arith
 
 loop-again : tie.Need-loop-again Inv-loop μ-loop
-loop-again c = 
+loop-again c =
     let left : ℕ = c .before .before .loop .left in
     let one : left - 1 + 1 ≡ left = omega arith in
     let room : c .before .before .before .before .args .at + (left - 1) < length (c .before .before .loop .text) = omega arith in

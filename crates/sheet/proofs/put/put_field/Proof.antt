@@ -27,7 +27,7 @@ same-length c = search needs
 
 returns : tie.Need-returns
 unfolding number
-returns c = 
+returns c =
     let room : c .before .before .before .before .before .before .before .before .before .before .args .at + 2 ≤ length (c .before .before .before .before .before .before .before .before .before .before .args .text .now) = omega (arith, c .before .before .before .before .before .before .before .before .before .before .pre) in
     rw (c .before .before .put-digits .ensures, c .before .before .before .before .before .before .copy .ensures) (sym (laid-turn _ _ (tab ∷ letterX ∷ []) (hex 16 _) room))
 

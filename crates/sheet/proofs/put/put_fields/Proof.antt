@@ -48,7 +48,7 @@ loop-less : tie.Need-loop-less Inv-loop μ-loop
 loop-less c = omega arith
 
 loop-again : tie.Need-loop-again Inv-loop μ-loop
-loop-again c = 
+loop-again c =
     let text = c .before .before .before .before .before .before .loop .text in
     let values = c .before .before .before .before .before .before .before .before .before .args .values .now in
     let i = c .before .before .before .before .before .before .loop .i in
