@@ -2,20 +2,25 @@
 -- how long a number is, and how large. Assumes nothing.
 use Prim.Native.Nat.{ℕ, zero, suc, _+_, _*_, _/_, _%_, _^_, _<_, _≤_}
 use mathlib.Core.Path.{_≡_, refl, sym, ap, ap₂, _∙_}
-use mathlib.Core.Bool.{Bool, true, false, false≢true, _&&_, _||_, and-false, or-false}
+use mathlib.Core.Bool.{Bool, true, false, false≢true, _&&_, and-false, or-false}
 use mathlib.Core.List.{List, [], _∷_, _++_, append-assoc, append-nil}
 use native.Mathlib.Nat.{pow-suc, add-zero, zero-add, suc-add, add-suc, mul-le-mul-right, pow-le-pow-right, div-lt-iff-lt-mul}
 use native.Mathlib.Numerals.{add-one}
 use native.Mathlib.Omega.{arith}
 use lib.ListN.{length, length-append, replicate}
 use lib.Dec.{ltb, leb}
-use borrow.Author.Tests.{lt-ltb, le-ltb, le-leb, lt-leb, ltb-true, ltb-false, leb-true, leb-false}
+use borrow.Author.Tests.{lt-ltb, le-ltb, le-leb, lt-leb, ltb-true, ltb-false, leb-true}
 use Rattle.sheet.specs.Digits.{digits, digit, hex, number, isDigit, digitValue, valueFrom, valueOf}
 use Rattle.sheet.specs.Lines.{anyDigit, begins}
+
+-- ---- tests
 
 pub both : (a b : Bool) → (a && b) ≡ true → (a ≡ true) × (b ≡ true)
 both true b e = (refl, e)
 both false b e = absurd (false≢true e)
+
+pub and-both : {a b : Bool} → a ≡ true → b ≡ true → (a && b) ≡ true
+and-both h k = ap₂ (λ (s t : Bool). s && t) h k
 
 pub same : (a b : Bool) → (a ≡ true → b ≡ true) → (b ≡ true → a ≡ true) → a ≡ b
 same true b f g = sym (f refl)
@@ -98,7 +103,7 @@ value-below cs h =
 
 -- ---- written and read back
 
--- after digits whose number is v / 16 ^ n
+-- a number's digits, then others: these are read behind the number
 from-hex : (n v : ℕ) (cs : List ℕ) → v < 16 ^ n → valueFrom 0 (hex n v ++ cs) ≡ valueFrom v cs
 unfolding hex valueFrom
 from-hex zero v cs h = ap (λ (k : ℕ). valueFrom k cs) (omega arith)
@@ -113,7 +118,7 @@ value-hex v h = ap (valueFrom 0) (sym (append-nil (hex digits v))) ∙ from-hex 
 
 -- ---- read and written back
 
--- behind the k digits of the number before
+-- others read behind a number of k digits
 hex-from : (cs : List ℕ) (k v : ℕ) → begins (replicate (length cs) anyDigit) cs ≡ true → hex (k + length cs) (valueFrom v cs) ≡ hex k v ++ cs
 unfolding hex valueFrom begins
 hex-from [] k v h = ap (λ (n : ℕ). hex n v) (add-zero k) ∙ sym (append-nil (hex k v))

@@ -1,18 +1,16 @@
 -- The numbers of a line, each behind a tab: how long they are, their form, and that reading and writing them are inverse. By the
 -- number of fields. Assumes nothing.
-use Prim.Native.Nat.{ℕ, zero, suc, _+_, _*_, _/_, _%_, _^_, _<_, _≤_}
+use Prim.Native.Nat.{ℕ, zero, suc, _+_, _*_, _/_, _%_, _^_, _<_}
 use mathlib.Core.Path.{_≡_, refl, sym, ap, ap₂, _∙_}
-use mathlib.Core.Bool.{true, false≢true, _&&_}
+use mathlib.Core.Bool.{true}
 use mathlib.Core.List.{List, [], _∷_, _++_, append-assoc}
 use native.Mathlib.Numerals.{add-one}
 use native.Mathlib.Omega.{arith}
 use lib.ListN.{length, take, drop, getD, replicate, length-append, length-take, length-replicate, replicate-append-replicate, take-append-drop}
 use lib.Seq.{drop-drop, take-at, drop-at, length-take-le}
-use lib.Dec.{eqb}
-use borrow.Author.Tests.{eqb-true}
-use Rattle.sheet.specs.Digits.{tab, lineFeed, letterX, digits, digit, hex, number, isDigit, valueOf}
+use Rattle.sheet.specs.Digits.{tab, lineFeed, letterX, digits, digit, hex, number, valueOf}
 use Rattle.sheet.specs.Lines.{fields, anyDigit, fieldForms, begins, valuesIn}
-use Rattle.sheet.proofs.DigitLaws.{both, digit-is, hex-length, number-length, value-below, value-hex, hex-value}
+use Rattle.sheet.proofs.DigitLaws.{digit-is, hex-length, number-length, value-below, value-hex, hex-value}
 use Rattle.sheet.proofs.Forms.{begins-room, begins-take, begins-parts, begins-both, begins-letters, lacks}
 
 -- ---- lengths

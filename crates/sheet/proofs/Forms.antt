@@ -11,10 +11,7 @@ use borrow.Author.Tests.{eqb-true, eq-eqb, ne-eqb, not-true}
 use Rattle.sheet.specs.Digits.{lineFeed, isDigit}
 use Rattle.sheet.specs.Lines.{joined, before, lines, anyDigit, fitsMark, begins}
 use Rattle.sheet.specs.Reading.{next}
-use Rattle.sheet.proofs.DigitLaws.{both}
-
-pub and-both : (a b : Bool) → a ≡ true → b ≡ true → (a && b) ≡ true
-and-both a b = ap₂ (λ (s t : Bool). s && t)
+use Rattle.sheet.proofs.DigitLaws.{both, and-both}
 
 -- ---- forms
 
@@ -38,7 +35,7 @@ unfolding begins
 begins-more [] u v h = refl
 begins-more (m ∷ ms) [] v h = absurd (false≢true h)
 begins-more (m ∷ ms) (c ∷ cs) v h =
-    let parts = both (fitsMark m c) (begins ms cs) h in and-both (fitsMark m c) (begins ms (cs ++ v)) (parts .0) (begins-more ms cs v (parts .1))
+    let parts = both (fitsMark m c) (begins ms cs) h in and-both (parts .0) (begins-more ms cs v (parts .1))
 
 -- a form in two parts
 begins-append : (a b u : List ℕ) → begins (a ++ b) u ≡ (begins a u && begins b (drop (length a) u))
@@ -55,7 +52,7 @@ begins-parts a b u h = both (begins a u) (begins b (drop (length a) u)) (sym (be
 pub begins-both : (a b x y : List ℕ) → length x ≡ length a → begins a x ≡ true → begins b y ≡ true → begins (a ++ b) (x ++ y) ≡ true
 begins-both a b x y e h k =
     begins-append a b (x ++ y)
-    ∙ and-both (begins a (x ++ y)) (begins b (drop (length a) (x ++ y))) (begins-more a x y h) (ap (begins b) (drop-at x y (length a) e) ∙ k)
+    ∙ and-both (begins-more a x y h) (ap (begins b) (drop-at x y (length a) e) ∙ k)
 
 -- ---- marks that stand for themselves
 
@@ -68,7 +65,7 @@ pub lacks-append : (c : ℕ) (a b : List ℕ) → lacks c a ≡ true → lacks c
 unfolding lacks
 lacks-append c [] b h k = k
 lacks-append c (m ∷ ms) b h k =
-    let parts = both (not (eqb m c)) (lacks c ms) h in and-both (not (eqb m c)) (lacks c (ms ++ b)) (parts .0) (lacks-append c ms b (parts .1) k)
+    let parts = both (not (eqb m c)) (lacks c ms) h in and-both (parts .0) (lacks-append c ms b (parts .1) k)
 
 other-mark : (c m : ℕ) (ms : List ℕ) → lacks c (m ∷ ms) ≡ true → (eqb m c ≡ false) × (lacks c ms ≡ true)
 unfolding lacks

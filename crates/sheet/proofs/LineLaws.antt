@@ -1,4 +1,19 @@
--- The laws of lines and texts. Assumes nothing.
+-- The laws of lines and texts, for the code's proofs and the crates above.
+--
+-- How long and how large:
+--     hex-length, number-length, fields-length, line-length   what is written
+--     value-below                                             16 digits hold a number of 64 bits
+-- A line of a kind at the front of a text:
+--     line-room                                               the text is as long as the line
+--     next-line, lines-step                                   it is the text's first line
+--     line-value                                              where its numbers stand
+-- A line:
+--     values-count, values-below                              how many numbers it has, each of 64 bits
+--     is-line-line, values-line, line-values                  writing and reading are inverse
+--     one-kind                                                it is of one kind only
+-- A text:
+--     joined-lines, lines-joined, lines-append                joining lines and splitting are inverse (LinesOnly: each is a line of some kind)
+-- Assumes nothing.
 use Prim.Native.Nat.{ℕ, zero, suc, _+_, _*_, _^_, _<_, _≤_}
 use mathlib.Core.Path.{_≡_, refl, sym, ap, ap₂, _∙_}
 use mathlib.Core.Bool.{true, cond, _&&_}
@@ -13,9 +28,9 @@ use Rattle.sheet.specs.Lines.{name, fieldCount, fields, line, joined, li
 use Rattle.sheet.specs.Reading.{next}
 use Rattle.sheet.specs.declared.line.Line.{Line}
 use Rattle.sheet.specs.declared.line.Line.the-variants.{Sheet, State, Page, Word, Do}
-use Rattle.sheet.proofs.DigitLaws.{both, same}
+use Rattle.sheet.proofs.DigitLaws.{both, and-both, same}
 use Rattle.sheet.proofs.Fields.{forms-length, values-length, forms-lack-feed, fields-begin, value-in, value-small, values-fields, fields-values}
-use Rattle.sheet.proofs.Forms.{and-both, begins-room, begins-take, begins-more, begins-parts, begins-both, lacks, lacks-append, letters-begin, begins-letters, lines-begins, begins-next}
+use Rattle.sheet.proofs.Forms.{begins-room, begins-take, begins-more, begins-parts, begins-both, lacks, lacks-append, letters-begin, begins-letters, lines-begins, begins-next}
 pub use Rattle.sheet.proofs.DigitLaws.{hex-length, number-length, value-below}
 pub use Rattle.sheet.proofs.Fields.{fields-length}
 pub use Rattle.sheet.proofs.Forms.{joined-lines}
@@ -33,8 +48,9 @@ pub line-length : (kind : Line) (vs : List ℕ) → length vs ≡ fieldCount kin
 unfolding line
 line-length kind vs e = rw (width-is, length-append, length-append, fields-length, e) (omega arith)
 
--- ---- a line at the front of a text
+-- ---- the form of a line
 
+-- the end of every line, and of every form
 abbrev feed : List ℕ
 feed = lineFeed ∷ []
 
@@ -76,6 +92,8 @@ marks-lack-feed : (kind : Line) → lacks lineFeed (marks kind) ≡ true
 unfolding marks
 marks-lack-feed kind = lacks-append lineFeed (name kind) (fieldForms (fieldCount kind)) (names-letters kind .0) (forms-lack-feed (fieldCount kind))
 
+-- ---- a line at the front of a text
+
 pub line-room : (kind : Line) (u : List ℕ) → begins (form kind) u ≡ true → width kind ≤ length u
 line-room kind u h = let room = begins-room (form kind) u h in let long = form-length kind in omega arith
 
@@ -93,7 +111,7 @@ front-line : (kind : Line) (u : List ℕ) → begins (form kind) u ≡ true → 
 unfolding isLine
 front-line kind u h =
     let long = form-length kind in
-    and-both (begins (form kind) (take (width kind) u)) (eqb (length (take (width kind) u)) (width kind)) (begins-take (form kind) u (width kind) (omega arith) ∙ h)
+    and-both (begins-take (form kind) u (width kind) (omega arith) ∙ h)
     (eq-eqb (length (take (width kind) u)) (width kind) (length-take-le (width kind) u (line-room kind u h)))
 
 pub next-line : (kind : Line) (u : List ℕ) → isLine kind (next (lines u)) ≡ begins (form kind) u
@@ -111,6 +129,7 @@ pub values-below : (kind : Line) (l : List ℕ) → Below (2 ^ 64) (values kind 
 unfolding values Below
 values-below kind l i = value-small (fieldCount kind) i (drop (length (name kind)) l)
 
+-- a part that lies in a front
 part-of-front : (n k w : ℕ) (u : List ℕ) → k + n ≤ w → take n (drop k (take w u)) ≡ take n (drop k u)
 part-of-front n zero w u h = take-take n w u (omega arith)
 part-of-front n (suc k) zero u h = absurd (omega arith)
@@ -132,7 +151,7 @@ line-value kind u i h less =
 pub is-line-line : (kind : Line) (vs : List ℕ) → length vs ≡ fieldCount kind → Below (2 ^ 64) vs → isLine kind (line kind vs) ≡ true
 unfolding isLine form line
 is-line-line kind vs e small =
-    and-both (begins (form kind) (line kind vs)) (eqb (length (line kind vs)) (width kind))
+    and-both
     (begins-both (name kind) (fieldForms (fieldCount kind) ++ feed) (name kind) (fields vs ++ feed) refl (letters-begin (name kind) (names-letters kind .1))
     (begins-both (fieldForms (fieldCount kind)) feed (fields vs) feed (rw (← e) (fields-length vs ∙ sym (forms-length (length vs)))) (rw (← e) (fields-begin vs))
     (letters-begin feed feed-letter)))
