@@ -1,15 +1,17 @@
 -- The turns of the loops that count lines: what each count of the definitions is at a place of a text, in the terms of the code; and that
 -- the lines so counted are of their kind. Assumes nothing.
-use Prim.Native.Nat.{ℕ, zero, suc, _+_, _-_, _*_, _<_, _≤_}
+use Prim.Native.Nat.{ℕ, zero, suc, _+_, _-_, _*_, _/_, _<_, _≤_}
 use mathlib.Core.Path.{_≡_, refl, sym, ap, _∙_, subst}
 use mathlib.Core.Bool.{Bool, true, false, not, cond, _&&_, and-true}
 use mathlib.Core.List.{List, [], _∷_, _++_}
+use native.Mathlib.Nat.{add-zero, zero-add}
+use native.Mathlib.Numerals.{add-one, one-add}
 use native.Mathlib.Omega.{arith}
 use lib.ListN.{length, take, drop}
 use lib.Seq.{drop-drop}
 use lib.Dec.{eqb, leb}
-use borrow.Author.Tests.{not-true, eqb-true, eq-eqb, ne-eqb}
-use Rattle.memory.specs.Pages.{pageOf}
+use borrow.Author.Tests.{not-true, eqb-true, eq-eqb, ne-eqb, le-leb, lt-leb}
+use Rattle.memory.specs.Pages.{pageBytes, pageOf}
 use Rattle.sheet.specs.Digits.{digits, valueOf}
 use Rattle.sheet.specs.Lines.{lines, begins, form, isLine}
 use Rattle.sheet.specs.Sheets.{frameOf, slots}
@@ -21,6 +23,14 @@ use Rattle.sheet.proofs.LineLaws.{next-line}
 use Rattle.sheet_read.specs.Scan.{Lead, lineCount, slotCount, wordCount}
 use Rattle.sheet_read.proofs.Leads.{lead-one, lead-none, lead-more, lead-end, lead-past}
 use Rattle.sheet_read.proofs.Places.{lines-at, is-line, value-at}
+
+-- ---- a count so far and a count from here on
+
+pub counted-turn : (n k rest : ℕ) {whole more : ℕ} → whole ≡ n + more → more ≡ k + rest → whole ≡ n + k + rest
+counted-turn n k rest e f = omega arith
+
+pub counted-end : (n : ℕ) {whole more : ℕ} → whole ≡ n + more → more ≡ 0 → n ≡ whole
+counted-end n e f = omega arith
 
 -- one line more, where it is of the kind and a test is passed
 lead-if : (kind : Line) (l : List ℕ) (ls : List (List ℕ)) (n : ℕ) (is : Bool) → isLine kind l ≡ is → (passed : Bool) → Lead kind n ls → Lead kind (cond (is && passed) (suc n) 0) (l ∷ ls)
@@ -41,14 +51,21 @@ unfolding pageCount
 page-other least [] h = refl
 page-other least (l ∷ ls) h = rw h
 
-module _ (t : List ℕ) (at least : ℕ) where
-  pub page-turn : begins (form Page) (drop at t) ≡ true
-      → pageCount least (lines (drop at t))
-      ≡ cond (leb least (frameOf (valueOf (take digits (drop (at + 6) t))))) (suc (pageCount (suc (frameOf (valueOf (take digits (drop (at + 6) t))))) (lines (drop (at + 23) t)))) 0
-  page-turn begun = rw (lines-at Page t at begun, page-cons least (take 23 (drop at t)) (lines (drop (at + 23) t)) (is-line Page t at begun), value-at Page t at begun 0 (omega arith))
+pub page-end : (t : List ℕ) (at least : ℕ) → begins (form Page) (drop at t) ≡ false → pageCount least (lines (drop at t)) ≡ 0
+page-end t at least other = page-other least (lines (drop at t)) (next-line Page (drop at t) ∙ other)
 
-  pub page-end : begins (form Page) (drop at t) ≡ false → pageCount least (lines (drop at t)) ≡ 0
-  page-end other = page-other least (lines (drop at t)) (next-line Page (drop at t) ∙ other)
+module _ (t : List ℕ) (at least entry : ℕ) (begun : begins (form Page) (drop at t) ≡ true) (entry-is : entry ≡ valueOf (take digits (drop (at + 6) t))) where
+  page-here : pageCount least (lines (drop at t)) ≡ cond (leb least (frameOf entry)) (suc (pageCount (suc (frameOf entry)) (lines (drop (at + 23) t)))) 0
+  page-here =
+      rw (lines-at Page t at begun, page-cons least (take 23 (drop at t)) (lines (drop (at + 23) t)) (is-line Page t at begun), value-at Page t at begun 0 (omega arith), ← entry-is)
+
+  pub page-turn : least ≤ entry / pageBytes → pageCount least (lines (drop at t)) ≡ 1 + pageCount (entry / pageBytes + 1) (lines (drop (at + 23) t))
+  unfolding frameOf
+  page-turn above = rw (page-here, le-leb _ _ above, add-one, one-add)
+
+  pub page-low : entry / pageBytes < least → pageCount least (lines (drop at t)) ≡ 0
+  unfolding frameOf
+  page-low low = rw (page-here, lt-leb _ _ low)
 
 pub lead-pages : (least : ℕ) (ls : List (List ℕ)) → Lead Page (pageCount least ls) ls
 unfolding pageCount Lead
@@ -67,8 +84,8 @@ do-other [] h = refl
 do-other (l ∷ ls) h = rw h
 
 module _ (t : List ℕ) (at : ℕ) where
-  pub do-turn : begins (form Do) (drop at t) ≡ true → doCount (lines (drop at t)) ≡ suc (doCount (lines (drop (at + 75) t)))
-  do-turn begun = rw (lines-at Do t at begun) (do-cons (take 75 (drop at t)) (lines (drop (at + 75) t)) (is-line Do t at begun))
+  pub do-turn : begins (form Do) (drop at t) ≡ true → doCount (lines (drop at t)) ≡ 1 + doCount (lines (drop (at + 75) t))
+  do-turn begun = rw (lines-at Do t at begun, one-add) (do-cons (take 75 (drop at t)) (lines (drop (at + 75) t)) (is-line Do t at begun))
 
   pub do-end : begins (form Do) (drop at t) ≡ false → doCount (lines (drop at t)) ≡ 0
   do-end other = do-other (lines (drop at t)) (next-line Do (drop at t) ∙ other)
@@ -185,18 +202,41 @@ bytes-suc : (address n : ℕ) (ls : List (List ℕ)) → slotBytes address (suc 
 unfolding slotBytes
 bytes-suc address n ls = refl
 
-module _ (t : List ℕ) (at base slot v : ℕ) (value-is : v ≡ slotValue (base + 8 * slot) (lines (drop at t))) where
-  pub slot-end : at ≤ length t → at + 41 * lineCount v ≤ length t
-  slot-end inside = rw value-is (lead-end Word _ t at (lead-slot (base + 8 * slot) (lines (drop at t))) inside)
+module _ (t : List ℕ) (at base slot v k : ℕ) (value-is : v ≡ slotValue (base + 8 * slot) (lines (drop at t))) (count-is : k ≡ lineCount v) where
+  lines-are : k ≡ lineCount (slotValue (base + 8 * slot) (lines (drop at t)))
+  lines-are = count-is ∙ ap lineCount value-is
 
-  slot-rest : pastSlot (base + 8 * slot) (lines (drop at t)) ≡ lines (drop (at + 41 * lineCount v) t)
-  slot-rest = rw value-is (slot-past (base + 8 * slot) (lines (drop at t)) ∙ sym (lead-past Word _ t at (lead-slot (base + 8 * slot) (lines (drop at t)))))
+  pub slot-end : at ≤ length t → at + 41 * k ≤ length t
+  slot-end inside = rw lines-are (lead-end Word _ t at (lead-slot (base + 8 * slot) (lines (drop at t))) inside)
+
+  slot-rest : pastSlot (base + 8 * slot) (lines (drop at t)) ≡ lines (drop (at + 41 * k) t)
+  slot-rest = rw lines-are (slot-past (base + 8 * slot) (lines (drop at t)) ∙ sym (lead-past Word _ t at (lead-slot (base + 8 * slot) (lines (drop at t)))))
 
   next-slot : base + 8 * slot + 8 ≡ base + 8 * (slot + 1)
   next-slot = omega arith
 
-  pub count-turn : slot < slots → slotCount (base + 8 * slot) (slots - slot) (lines (drop at t)) ≡ lineCount v + slotCount (base + 8 * (slot + 1)) (slots - (slot + 1)) (lines (drop (at + 41 * lineCount v) t))
-  count-turn more = rw (one-less slot more, count-suc, next-slot, slot-rest, value-is)
+  pub count-turn : slot < slots → slotCount (base + 8 * slot) (slots - slot) (lines (drop at t)) ≡ k + slotCount (base + 8 * (slot + 1)) (slots - (slot + 1)) (lines (drop (at + 41 * k) t))
+  count-turn more = rw (one-less slot more, count-suc, next-slot, slot-rest, lines-are)
 
-  pub bytes-turn : slot < slots → slotBytes (base + 8 * slot) (slots - slot) (lines (drop at t)) ≡ littleBytes 8 v ++ slotBytes (base + 8 * (slot + 1)) (slots - (slot + 1)) (lines (drop (at + 41 * lineCount v) t))
+  pub bytes-turn : slot < slots → slotBytes (base + 8 * slot) (slots - slot) (lines (drop at t)) ≡ littleBytes 8 v ++ slotBytes (base + 8 * (slot + 1)) (slots - (slot + 1)) (lines (drop (at + 41 * k) t))
   bytes-turn more = rw (one-less slot more, bytes-suc, next-slot, slot-rest, value-is)
+
+-- all values
+pub count-start : (base : ℕ) (ls : List (List ℕ)) → slotCount base slots ls ≡ 0 + slotCount (base + 0) slots ls
+count-start base ls = rw (add-zero, zero-add)
+
+-- no values
+pub count-none : (address slot : ℕ) (ls : List (List ℕ)) → slots ≤ slot → slotCount address (slots - slot) ls ≡ 0
+unfolding slotCount
+count-none address slot ls end = let none : slots - slot ≡ 0 = omega arith in rw none
+
+pub bytes-none : (address slot : ℕ) (ls : List (List ℕ)) → slots ≤ slot → slotBytes address (slots - slot) ls ≡ []
+unfolding slotBytes
+bytes-none address slot ls end = let none : slots - slot ≡ 0 = omega arith in rw none
+
+pub few-lines : (v : ℕ) → lineCount v ≤ 1
+few-lines v = go (eqb v 0)
+  where
+    go : (b : Bool) → cond b 0 1 ≤ 1
+    go true = omega arith
+    go false = omega arith

@@ -1,4 +1,29 @@
 // Judging a text: how many lines of each kind it has, or the first line that no sheet has. Nothing is written.
+ghost use mathlib.Core.Path.{_≡_};
+ghost use mathlib.Core.Bool.{true, _&&_};
+ghost use Prim.Native.Nat.{_+_, _*_, _≤_};
+ghost use lib.ListN.{length, take, drop};
+ghost use Rattle.memory.specs.Pages.{pageOf};
+ghost use Rattle.sheet.specs.Lines.{lines};
+ghost use Rattle.sheet.specs.Sheets.{slots};
+ghost use Rattle.sheet.specs.Reading.{pageCount, slotValue, doCount};
+ghost use Rattle.sheet.specs.declared.line.Line.the-variants.{Page as PageLine};
+ghost use Rattle.sheet_read.specs.Scan.{Lead, lineCount, slotCount, wordCount, bodyAt, wordsAt, entriesIn, Scanned};
+use memory::PAGE_BYTES;
+use sheet::Line;
+use sheet::number;
+
+// Where the state stands, behind the line of the version; and the lines after both.
+pub const STATE: usize = 24;
+pub const BODY: usize = 210;
+
+// How long a page line, a word line and a do line are.
+pub const PAGE_LINE: usize = 23;
+pub const WORD_LINE: usize = 41;
+pub const DO_LINE: usize = 75;
+
+// How many values of 8 bytes a page has.
+pub const SLOTS: u64 = 512;
 
 // How many page, word and do lines a sheet has.
 pub struct Shape {
@@ -12,4 +37,74 @@ pub enum Scan {
     Sheet(Shape),
     // No sheet: the first line, from 1, that cannot begin or continue one.
     NoSheet(usize),
+}
+
+// How many page lines there are, up to the first whose address is not above the one before it.
+fn count_pages(text: &[u8]) -> usize
+    ensures { λ r. ⌜ r ≡ pageCount 0 (lines (drop bodyAt (now (text .entry)))) ⌝ }
+{
+    let mut n: usize = 0;
+    let mut least: u64 = 0;
+    let mut at = BODY;
+    while Line::Page.stands(text, at) {
+        let frame = number(text, at + 6) / (PAGE_BYTES as u64);
+        if frame < least {
+            return n;
+        }
+        least = frame + 1;
+        n += 1;
+        at += PAGE_LINE;
+    }
+    n
+}
+
+// The value at an address: that of the line here, if it is this address's, else 0.
+pub fn slot_value(text: &[u8], at: usize, address: u64) -> u64
+    ensures { λ r. ⌜ r ≡ slotValue address (lines (drop at (now (text .entry)))) ⌝ }
+{
+    if !Line::Word.stands(text, at) {
+        return 0;
+    }
+    if number(text, at + 6) != address {
+        return 0;
+    }
+    number(text, at + 24)
+}
+
+// How many lines a value takes: none where it is 0.
+pub fn line_count(value: u64) -> usize
+    ensures { λ r. ⌜ r ≡ lineCount value ⌝ }
+{
+    if value == 0 { 0 } else { 1 }
+}
+
+// How many lines the values of an entry's page take, from a place on.
+fn words_of_page(text: &[u8], at: usize, entry: u64) -> usize
+    requires { ⌜ at ≤ length (now text) ⌝ }
+    ensures { λ r. ⌜ r ≡ slotCount (pageOf entry) slots (lines (drop at (now (text .entry)))) ⌝ }
+{
+    let base = entry / (PAGE_BYTES as u64) * (PAGE_BYTES as u64);
+    let mut n: usize = 0;
+    let mut here = at;
+    let mut slot: u64 = 0;
+    while slot < SLOTS {
+        let found = line_count(slot_value(text, here, base + 8 * slot));
+        n += found;
+        here += WORD_LINE * found;
+        slot += 1;
+    }
+    n
+}
+
+// How many instructions are listed, from a place on.
+fn count_steps(text: &[u8], at: usize) -> usize
+    ensures { λ r. ⌜ r ≡ doCount (lines (drop at (now (text .entry)))) ⌝ }
+{
+    let mut n: usize = 0;
+    let mut here = at;
+    while Line::Do.stands(text, here) {
+        n += 1;
+        here += DO_LINE;
+    }
+    n
 }
