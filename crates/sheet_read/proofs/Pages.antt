@@ -12,7 +12,7 @@ use Rattle.sheet.specs.Sheets.{slots, entriesOf, bytesOf}
 use Rattle.sheet.specs.Reading.{value, numbers, littleBytes, slotValue, pastSlot, slotBytes, pastSlots, pagesIn}
 use Rattle.sheet.specs.declared.line.Line.the-variants.{Page, Word}
 use Rattle.sheet_read.specs.Scan.{Lead, slotCount, wordCount, entriesIn}
-use Rattle.sheet_read.proofs.Leads.{led, lead-end, lead-past, numbers-turn, numbers-length}
+use Rattle.sheet_read.proofs.Leads.{led, lead-end, lead-past, numbers-turn, numbers-none, numbers-length}
 use Rattle.sheet_read.proofs.Places.{value-at}
 use Rattle.sheet_read.proofs.Stages.{slots-past, lead-slots}
 
@@ -52,6 +52,35 @@ module _ (t : List ℕ) (at entry n : ℕ) (count-is : n ≡ slotCount (pageOf e
   pub pages-turn : (entries : List ℕ) → bytesOf (pagesIn (entry ∷ entries) (lines (drop at t))) ≡ slotBytes (pageOf entry) slots (lines (drop at t)) ++ bytesOf (pagesIn entries (lines (drop (at + 41 * n) t)))
   unfolding pagesIn bytesOf
   pages-turn entries = rw page-rest
+
+-- the same where the entry stands on a page line, the first of those that are left
+module _ (t : List ℕ) (left page here entry n : ℕ) (more : 0 < left) (stand : Lead Page left (lines (drop page t)))
+  (entry-is : entry ≡ valueOf (take digits (drop (page + 6) t))) (count-is : n ≡ slotCount (pageOf entry) slots (lines (drop here t))) where
+  entries-are : entriesIn left (drop page t) ≡ entry ∷ entriesIn (left - 1) (drop (page + 23) t)
+  entries-are = rw entry-is (entries-turn left t page more stand)
+
+  pub words-next : wordCount (entriesIn left (drop page t)) (lines (drop here t)) ≡ n + wordCount (entriesIn (left - 1) (drop (page + 23) t)) (lines (drop (here + 41 * n) t))
+  words-next = rw entries-are (words-turn t here entry n count-is (entriesIn (left - 1) (drop (page + 23) t)))
+
+  pub pages-next : bytesOf (pagesIn (entriesIn left (drop page t)) (lines (drop here t)))
+      ≡ slotBytes (pageOf entry) slots (lines (drop here t)) ++ bytesOf (pagesIn (entriesIn (left - 1) (drop (page + 23) t)) (lines (drop (here + 41 * n) t)))
+  pages-next = rw entries-are (pages-turn t here entry n count-is (entriesIn (left - 1) (drop (page + 23) t)))
+
+pub lead-next : (t : List ℕ) (left page : ℕ) → 0 < left → Lead Page left (lines (drop page t)) → Lead Page (left - 1) (lines (drop (page + 23) t))
+lead-next t left page more stand = rw (drop-drop 23 page t) at (led Page left (drop page t) more stand .rest)
+
+-- no page
+pub entries-none : (left : ℕ) (u : List ℕ) → left ≤ 0 → entriesIn left u ≡ []
+unfolding entriesIn
+entries-none left u none = numbers-none Page left (lines u) none
+
+pub words-none : (left : ℕ) (u : List ℕ) (ls : List (List ℕ)) → left ≤ 0 → wordCount (entriesIn left u) ls ≡ 0
+unfolding wordCount
+words-none left u ls none = rw (entries-none left u none)
+
+pub pages-none : (left : ℕ) (u : List ℕ) (ls : List (List ℕ)) → left ≤ 0 → bytesOf (pagesIn (entriesIn left u) ls) ≡ []
+unfolding pagesIn bytesOf
+pages-none left u ls none = rw (entries-none left u none)
 
 -- ---- how many
 

@@ -9,7 +9,7 @@ use lib.Dec.{eqb}
 use Rattle.memory.specs.Pages.{pageOf}
 use Rattle.sheet.specs.Lines.{lines, isLine, values}
 use Rattle.sheet.specs.Sheets.{Saved, slots}
-use Rattle.sheet.specs.Reading.{next, numbers, slotValue, pastSlot, pastSlots, pagesIn, sheet, noSheet, parsed}
+use Rattle.sheet.specs.Reading.{next, isHead, numbers, slotValue, pastSlot, pastSlots, pagesIn, sheet, noSheet, parsed}
 use Rattle.sheet.specs.declared.line.Line.{Line}
 use Rattle.sheet.specs.declared.line.Line.the-variants.{State as StateLine, Page as PageLine, Do}
 use Rattle.sheet_read.specs.declared.scan.Shape.{Shape}
@@ -68,6 +68,11 @@ savedAt t shape =
     }
 
 -- ---- what a scan finds
+
+-- the version and the state stand where they must
+pub record Headed (t : List ℕ) : Type 0 where
+  pub version : isHead (next (lines t)) ≡ true
+  pub state : Lead StateLine 1 (lines (drop stateAt t))
 
 -- a sheet of this shape: each kind of line where it must stand, up to the end of the text, and the run that it is
 pub record Shaped (t : List ℕ) (shape : Shape) : Type 0 where

@@ -8,10 +8,13 @@ ghost use Rattle.sheet.specs.Lines.{lines};
 ghost use Rattle.sheet.specs.Sheets.{slots};
 ghost use Rattle.sheet.specs.Reading.{pageCount, slotValue, doCount};
 ghost use Rattle.sheet.specs.declared.line.Line.the-variants.{Page as PageLine};
-ghost use Rattle.sheet_read.specs.Scan.{Lead, lineCount, slotCount, wordCount, bodyAt, wordsAt, entriesIn, Scanned};
+ghost use Rattle.sheet_read.specs.Scan.{Lead, lineCount, slotCount, wordCount, bodyAt, wordsAt, entriesIn, Headed, Scanned};
 use memory::PAGE_BYTES;
 use sheet::Line;
 use sheet::number;
+
+// The newest version.
+const VERSION: u64 = 1;
 
 // Where the state stands, behind the line of the version; and the lines after both.
 pub const STATE: usize = 24;
@@ -96,6 +99,25 @@ fn words_of_page(text: &[u8], at: usize, entry: u64) -> usize
     n
 }
 
+// How many lines the values of all pages take.
+fn count_words(text: &[u8], pages: usize) -> usize
+    requires { ⌜ (bodyAt ≤ length (now text)) × Lead PageLine pages (lines (drop bodyAt (now text))) ⌝ }
+    ensures { λ r. ⌜ r ≡ wordCount (entriesIn pages (drop bodyAt (now (text .entry)))) (lines (drop (wordsAt pages) (now (text .entry)))) ⌝ }
+{
+    let mut n: usize = 0;
+    let mut here = BODY + PAGE_LINE * pages;
+    let mut page = BODY;
+    let mut left = pages;
+    while 0 < left {
+        let found = words_of_page(text, here, number(text, page + 6));
+        n += found;
+        here += WORD_LINE * found;
+        page += PAGE_LINE;
+        left -= 1;
+    }
+    n
+}
+
 // How many instructions are listed, from a place on.
 fn count_steps(text: &[u8], at: usize) -> usize
     ensures { λ r. ⌜ r ≡ doCount (lines (drop at (now (text .entry)))) ⌝ }
@@ -107,4 +129,39 @@ fn count_steps(text: &[u8], at: usize) -> usize
         here += DO_LINE;
     }
     n
+}
+
+// What a text is whose version and state are good.
+fn scan_body(text: &[u8]) -> Scan
+    requires { ⌜ Headed (now text) ⌝ }
+    ensures { λ r. ⌜ Scanned (now (text .entry)) r ⌝ }
+{
+    let pages = count_pages(text);
+    let words = count_words(text, pages);
+    let at = BODY + PAGE_LINE * pages + WORD_LINE * words;
+    let steps = count_steps(text, at);
+    if at + DO_LINE * steps != text.len() {
+        return Scan::NoSheet(3 + pages + words + steps);
+    }
+    Scan::Sheet(Shape {
+        pages,
+        words,
+        steps,
+    })
+}
+
+// What a text is.
+pub fn scan_sheet(text: &[u8]) -> Scan
+    ensures { λ r. ⌜ Scanned (now (text .entry)) r ⌝ }
+{
+    if !Line::Sheet.stands(text, 0) {
+        return Scan::NoSheet(1);
+    }
+    if number(text, 7) != VERSION {
+        return Scan::NoSheet(1);
+    }
+    if !Line::State.stands(text, STATE) {
+        return Scan::NoSheet(2);
+    }
+    scan_body(text)
 }
