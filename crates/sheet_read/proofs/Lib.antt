@@ -3,3 +3,4 @@ mod Leads
 mod Places
 mod Stages
 mod Pages
+mod Bodies

@@ -46,13 +46,13 @@ stateAt = 24
 abbrev pub bodyAt : ℕ
 bodyAt = 210
 
--- the words behind n pages
+-- the words behind the pages
 abbrev pub wordsAt : ℕ → ℕ
 wordsAt pages = bodyAt + 23 * pages
 
--- the instructions behind them
-abbrev pub stepsAt : Shape → ℕ
-stepsAt shape = wordsAt (shape .pages) + 41 * shape .words
+-- the instructions behind both
+abbrev pub stepsAt : ℕ → ℕ → ℕ
+stepsAt pages words = wordsAt pages + 41 * words
 
 -- the entries of n page lines
 unfoldable pub entriesIn : ℕ → List ℕ → List ℕ
@@ -64,7 +64,7 @@ savedAt t shape =
     record {
       state = numbers StateLine (take 1 (lines (drop stateAt t)));
       pages = pagesIn (entriesIn (shape .pages) (drop bodyAt t)) (lines (drop (wordsAt (shape .pages)) t));
-      words = numbers Do (take (shape .steps) (lines (drop (stepsAt shape) t)));
+      words = numbers Do (take (shape .steps) (lines (drop (stepsAt (shape .pages) (shape .words)) t)));
     }
 
 -- ---- what a scan finds
@@ -78,8 +78,8 @@ pub record Headed (t : List ℕ) : Type 0 where
 pub record Shaped (t : List ℕ) (shape : Shape) : Type 0 where
   pub state : Lead StateLine 1 (lines (drop stateAt t))
   pub pages : Lead PageLine (shape .pages) (lines (drop bodyAt t))
-  pub steps : Lead Do (shape .steps) (lines (drop (stepsAt shape) t))
-  pub whole : stepsAt shape + 75 * shape .steps ≡ length t
+  pub steps : Lead Do (shape .steps) (lines (drop (stepsAt (shape .pages) (shape .words)) t))
+  pub whole : stepsAt (shape .pages) (shape .words) + 75 * shape .steps ≡ length t
   pub saved : parsed t ≡ sheet (savedAt t shape)
 
 abbrev pub Scanned : List ℕ → Scan → Type 0

@@ -1,4 +1,11 @@
+-- `scan_body` meets its contract: every stage ends within the text, and what is left over, or nothing, decides. Assumes nothing.
+use Prim.Native.Nat.{ℕ, _+_, _*_, _≤_}
+use mathlib.Core.List.{List}
+use native.Mathlib.Omega.{arith}
+use lib.ListN.{length}
 use borrow.Author.Needs.{needs}
+use Rattle.sheet_read.specs.Scan.{stepsAt}
+use Rattle.sheet_read.proofs.Bodies.{body-in, pages-stand, steps-in, end-in, whole-sheet, left-over}
 use Rattle.sheet_read.proofs.scan.scan_body.Statement.{statement}
 use Rattle.sheet_read.proofs.scan.scan_body.Tie as tie
 use Rattle.sheet_read.proofs.scan.scan_body.Reads as reads
@@ -7,61 +14,56 @@ use Rattle.sheet_read.proofs.scan.count_pages.Reads as count-pages-read
 use Rattle.sheet_read.proofs.scan.count_steps.Reads as count-steps-reads
 use Rattle.sheet_read.proofs.scan.count_words.Reads as count-words-reads
 
--- src/scan.rt:139:9
 count-pages-requires : tie.Need-count-pages-requires
 count-pages-requires c κs = search needs
 
--- src/scan.rt:140:9
 count-words-requires : tie.Need-count-words-requires
-count-words-requires c κs = ?
+count-words-requires c κs = (body-in _ (c .before .before .pre), pages-stand _ _ (c .count-pages .ensures))
 
--- src/scan.rt:141:21
+abbrev text : tie.After-count-words → List ℕ
+text c = c .before .before .before .args .text .now
+
+room : (c : tie.After-count-words) → stepsAt (c .before .count-pages .result) (c .count-words .result) ≤ length (text c)
+room c = steps-in (text c) (c .before .before .before .pre) _ _ (c .before .count-pages .ensures) (c .count-words .ensures)
+
 mul-at : tie.Need-mul-at
-mul-at c = ?
+mul-at c = omega (arith, room c)
 
--- src/scan.rt:141:14
 add-at : tie.Need-add-at
-add-at c = ?
+add-at c = omega (arith, room c)
 
--- src/scan.rt:141:41
 mul-at-2 : tie.Need-mul-at-2
-mul-at-2 c = ?
+mul-at-2 c = omega (arith, room c)
 
--- src/scan.rt:141:14
 add-at-2 : tie.Need-add-at-2
-add-at-2 c = ?
+add-at-2 c = omega (arith, room c)
 
--- src/scan.rt:142:9
 count-steps-requires : tie.Need-count-steps-requires
 count-steps-requires c κs = search needs
 
--- src/scan.rt:143:13
+room-all : (c : tie.After-count-steps) → stepsAt (c .before .before .count-pages .result) (c .before .count-words .result) + 75 * c .count-steps .result ≤ length (text (c .before))
+room-all c = end-in (text (c .before)) (c .before .before .before .before .pre) _ _ (c .before .before .count-pages .ensures) (c .before .count-words .ensures) _ (c .count-steps .ensures)
+
 mul-if1 : tie.Need-mul-if1
-mul-if1 c = ?
+mul-if1 c = omega (arith, room-all c)
 
--- src/scan.rt:143:8
 add-if1 : tie.Need-add-if1
-add-if1 c = ?
+add-if1 c = omega (arith, room-all c)
 
--- src/scan.rt:144:30
 add-t10 : tie.Need-add-t10
-add-t10 c = ?
+add-t10 c = omega (arith, room-all (c .before))
 
--- src/scan.rt:144:30
 add-t11 : tie.Need-add-t11
-add-t11 c = ?
+add-t11 c = omega (arith, room-all (c .before))
 
--- src/scan.rt:144:30
 add-t12 : tie.Need-add-t12
-add-t12 c = ?
+add-t12 c = omega (arith, room-all (c .before))
 
--- src/scan.rt:144:9
 returns : tie.Need-returns
-returns c = ?
+returns c = left-over (text (c .before .before)) (c .before .before .before .before .before .pre) _ _ (c .before .before .before .count-pages .ensures) (c .before .before .count-words .ensures) _ (c .before .count-steps .ensures) (c .if1 .taken)
 
--- src/scan.rt:135:1
 returns-2 : tie.Need-returns-2
-returns-2 c = ?
+returns-2 c = whole-sheet (text (c .before .before)) (c .before .before .before .before .before .pre) _ _ (c .before .before .before .count-pages .ensures) (c .before .before .count-words .ensures) _ (c .before .count-steps .ensures) (c .if1 .left)
 
 pub scan-body-spec : {M : Type 1} → statement M
 scan-body-spec =
