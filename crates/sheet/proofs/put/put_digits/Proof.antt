@@ -42,7 +42,7 @@ loop-again c =
     let left : ℕ = c .before .before .loop .left in
     let one : left - 1 + 1 ≡ left = omega arith in
     let room : c .before .before .before .before .args .at + (left - 1) < length (c .before .before .loop .text) = omega arith in
-    (c .before .before .loop .inv .0 ∙ rw (c .digit .ensures) (rw one at (hex-turn (c .before .before .loop .text) (c .before .before .before .before .args .at) (left - 1) (c .before .before .loop .v) room)), length-set _ _ _ ∙ c .before .before .loop .inv .1, omega arith)
+    (c .before .before .loop .inv .0 ∙ rw (c .digit .ensures) (rw one at (hex-turn (c .before .before .loop .text) (c .before .before .before .before .args .at) (left - 1) (c .before .before .loop .v) room)), rw length-set (c .before .before .loop .inv .1), omega arith)
 
 same-length : tie.Need-same-length Inv-loop μ-loop
 same-length c = c .before .loop .inv .1
