@@ -90,12 +90,18 @@ fn change_lines(dice: &mut Dice, lines: &mut Vec<String>) {
     }
 }
 
-/// Puts a good line after another one: a line of the same name whose numbers are
-/// close to it, or a line of another name.
+/// Puts a well-formed line of any name after another one, often with a number
+/// close to that one's first.
 fn insert_like(dice: &mut Dice, lines: &mut Vec<String>, place: usize) {
     let (_, first) = split(&lines[place]);
     let first = first.first().copied().unwrap_or(0);
-    let near = dice.one_of(&[first, first + 8, first ^ 3, first.wrapping_sub(8), !first]);
+    let near = dice.one_of(&[
+        first,
+        first.wrapping_add(8),
+        first.wrapping_sub(8),
+        first ^ 3,
+        !first,
+    ]);
     let value = dice.below(3);
     let new = match dice.below(6) {
         0 => line("sheet", &[value]),
