@@ -7,3 +7,6 @@ pub mod WordsRead
 pub mod StagesRead
 pub mod SheetLines
 pub mod RoundTripsProof
+pub mod WordsTaken
+pub mod StagesTaken
+pub mod Outcomes
