@@ -10,3 +10,5 @@ pub mod RoundTripsProof
 pub mod WordsTaken
 pub mod StagesTaken
 pub mod Outcomes
+pub mod LookAhead
+pub mod FirstBadLineProof

@@ -7,7 +7,8 @@ use native.Mathlib.Omega.{arith}
 use borrow.Author.Tests.{eq-eqb, ne-eqb}
 use Rattle.sheet.specs.Digits.{Below}
 use Rattle.sheet.specs.Lines.{line, isLine, begins, form, values}
-use Rattle.sheet.specs.Reading.{isWord}
+use Rattle.sheet.specs.Sheets.{version}
+use Rattle.sheet.specs.Reading.{isHead, isWord}
 use Rattle.sheet.specs.declared.line.Line.{Line}
 use Rattle.sheet.specs.declared.line.Line.the-variants.{Sheet, State, Page, Word, Do}
 use Rattle.sheet_claims.proofs.Assumed.{is-line-line, values-line, one-kind}
@@ -36,6 +37,12 @@ no-line Do = refl
 
 pub one-below : (v : ℕ) → v < 2 ^ 64 → Below (2 ^ 64) (v ∷ [])
 one-below v small = below-cons (2 ^ 64) v [] small (below-none (2 ^ 64) (omega arith))
+
+pub head-read : isHead (line Sheet (version ∷ [])) ≡ true
+unfolding isHead
+head-read =
+    let small = one-below version (omega arith) in
+    rw (is-line-line Sheet (version ∷ []) refl small, values-line Sheet (version ∷ []) refl small)
 
 module _ (address v : ℕ) (address-small : address < 2 ^ 64) (small : v < 2 ^ 64) where
   both-below : Below (2 ^ 64) (address ∷ v ∷ [])

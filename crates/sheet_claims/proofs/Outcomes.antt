@@ -4,7 +4,7 @@ use mathlib.Core.Bool.{Bool, true, false, true≢false}
 use mathlib.Core.List.{List, [], _∷_, _++_, append-nil}
 use mathlib.Core.Path.{_≡_, refl, sym, ap, ap₂, _∙_}
 use native.Mathlib.Omega.{arith}
-use lib.ListN.{length, drop, length-append}
+use lib.ListN.{length, take, drop, length-append}
 use lib.Dec.{eqb, eqb·suc-zero}
 use borrow.Author.Tests.{eqb-true}
 use Rattle.sheet.specs.Lines.{line, isLine, values}
@@ -19,7 +19,7 @@ use Rattle.sheet_claims.proofs.WordsTaken.{both, one}
 -- no `sheet` line; no `state` line; all lines are those of a run; or a line is left behind those of a run
 pub data Outcome (ls : List (List ℕ)) : Type 0 where
   no-head : isHead (next ls) ≡ false → parsedLines ls ≡ noSheet 1 → Outcome ls
-  no-state : isLine State (next (drop 1 ls)) ≡ false → parsedLines ls ≡ noSheet 2 → Outcome ls
+  no-state : take 1 ls ≡ line Sheet (version ∷ []) ∷ [] → isLine State (next (drop 1 ls)) ≡ false → parsedLines ls ≡ noSheet 2 → Outcome ls
   whole : (s : Saved) → Sheeted s → sheetLines s ≡ ls → parsedLines ls ≡ sheet s → Outcome ls
   stopped : (s : Saved) (l : List ℕ) (rest : List (List ℕ)) → Sheeted s → sheetLines s ++ l ∷ rest ≡ ls → stages (drop 2 ls) .left ≡ l ∷ rest
       → parsedLines ls ≡ noSheet (suc (length (sheetLines s))) → Outcome ls
@@ -31,6 +31,11 @@ unfolding isHead
 head-line l e =
     let tests = both (isLine Sheet l) (eqb (value Sheet 0 l) version) e in
     ap (line Sheet) (sym (one (values Sheet l) (values-count Sheet l) ∙ ap (λ (v : ℕ). v ∷ []) (eqb-true (value Sheet 0 l) version (tests .1)))) ∙ line-values Sheet l (tests .0)
+
+first-one : (ls : List (List ℕ)) → isHead (next ls) ≡ true → take 1 ls ≡ line Sheet (version ∷ []) ∷ []
+unfolding isHead
+first-one [] e = absurd (true≢false (sym (rw no-line at e)))
+first-one (l ∷ ls) e = rw (head-line l e)
 
 first-two : (ls : List (List ℕ)) → isHead (next ls) ≡ true → isLine State (next (drop 1 ls)) ≡ true
     → line Sheet (version ∷ []) ∷ line State (values State (next (drop 1 ls))) ∷ drop 2 ls ≡ ls
@@ -69,5 +74,5 @@ outcome ls = by (isHead (next ls)) refl (isLine State (next (drop 1 ls))) refl
   where
     by : (h : Bool) → isHead (next ls) ≡ h → (t : Bool) → isLine State (next (drop 1 ls)) ≡ t → Outcome ls
     by false e t f = no-head e (rw e)
-    by true e false f = no-state f (rw (e, f))
+    by true e false f = no-state (first-one ls e) f (rw (e, f))
     by true e true f = both-there ls e f
