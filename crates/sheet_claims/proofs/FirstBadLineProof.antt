@@ -12,8 +12,8 @@ use Rattle.sheet.specs.Lines.{line, isLine, lines}
 use Rattle.sheet.specs.Sheets.{Saved, Sheeted, Ascending, WholePages, version, sheetLines, text}
 use Rattle.sheet.specs.Reading.{next, isHead, Stages, stages, parsed}
 use Rattle.sheet.specs.declared.line.Line.the-variants.{Sheet, State}
+use Rattle.sheet.proofs.LineLaws.{is-line-line}
 use Rattle.sheet_claims.specs.FirstBadLine.{FromOne, Before, NotHere}
-use Rattle.sheet_claims.proofs.Assumed.{is-line-line}
 use Rattle.sheet_claims.proofs.Bytes.{below-none, below-cons}
 use Rattle.sheet_claims.proofs.LineKinds.{head-read}
 use Rattle.sheet_claims.proofs.LookAhead.{stages-stop}

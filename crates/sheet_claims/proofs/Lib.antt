@@ -1,6 +1,5 @@
 -- The theorems on run sheets, each of the type of that name in specs/, and what they stand on.
 
-pub mod Assumed
 pub mod Bytes
 pub mod LineKinds
 pub mod WordsRead

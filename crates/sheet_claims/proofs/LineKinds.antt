@@ -11,7 +11,7 @@ use Rattle.sheet.specs.Sheets.{version}
 use Rattle.sheet.specs.Reading.{isHead, isWord}
 use Rattle.sheet.specs.declared.line.Line.{Line}
 use Rattle.sheet.specs.declared.line.Line.the-variants.{Sheet, State, Page, Word, Do}
-use Rattle.sheet_claims.proofs.Assumed.{is-line-line, values-line, one-kind}
+use Rattle.sheet.proofs.LineLaws.{is-line-line, values-line, one-kind}
 use Rattle.sheet_claims.proofs.Bytes.{below-none, below-cons}
 
 -- ---- kinds

@@ -11,7 +11,7 @@ use Rattle.sheet.specs.Lines.{line, isLine, values}
 use Rattle.sheet.specs.Sheets.{Saved, Sheeted, version, sheetLines}
 use Rattle.sheet.specs.Reading.{sheet, noSheet, value, next, isHead, stages, parsedLines}
 use Rattle.sheet.specs.declared.line.Line.the-variants.{Sheet, State}
-use Rattle.sheet_claims.proofs.Assumed.{line-values, values-count, values-below}
+use Rattle.sheet.proofs.LineLaws.{line-values, values-count, values-below}
 use Rattle.sheet_claims.proofs.LineKinds.{no-line}
 use Rattle.sheet_claims.proofs.StagesTaken.{stages-taken, stages-sheeted}
 use Rattle.sheet_claims.proofs.WordsTaken.{both, one}

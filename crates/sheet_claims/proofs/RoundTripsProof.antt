@@ -6,8 +6,8 @@ use Rattle.sheet.specs.Lines.{lines, joined}
 use Rattle.sheet.specs.Sheets.{Saved, Sheeted, sheetLines, text}
 use Rattle.sheet.specs.Reading.{parsedLines, parsed}
 use Rattle.sheet.specs.declared.line.Line.the-variants.{State}
+use Rattle.sheet.proofs.LineLaws.{is-line-line, values-line, joined-lines}
 use Rattle.sheet_claims.specs.RoundTrips.{ReadsBack, WritesBack}
-use Rattle.sheet_claims.proofs.Assumed.{is-line-line, values-line, joined-lines}
 use Rattle.sheet_claims.proofs.LineKinds.{head-read}
 use Rattle.sheet_claims.proofs.Outcomes.{Outcome, no-head, no-state, whole, stopped, outcome}
 use Rattle.sheet_claims.proofs.SheetLines.{lines-of-text}

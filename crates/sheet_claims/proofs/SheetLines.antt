@@ -13,7 +13,7 @@ use Rattle.sheet.specs.Lines.{fieldCount, line, lines}
 use Rattle.sheet.specs.Sheets.{Page, Saved, Sheeted, WholePages, little, wordLine, wordLines, slots, pagesWords, pageLines, doLines, version, sheetLines, text}
 use Rattle.sheet.specs.declared.line.Line.{Line}
 use Rattle.sheet.specs.declared.line.Line.the-variants.{Sheet, State, Page as PageLine, Word, Do}
-use Rattle.sheet_claims.proofs.Assumed.{is-line-line, LinesOnly, lines-joined}
+use Rattle.sheet.proofs.LineLaws.{is-line-line, LinesOnly, lines-joined}
 use Rattle.sheet_claims.proofs.Bytes.{below-take, below-drop, little-below}
 use Rattle.sheet_claims.proofs.LineKinds.{one-below, word-line}
 

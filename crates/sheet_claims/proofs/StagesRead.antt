@@ -12,7 +12,7 @@ use Rattle.sheet.specs.Lines.{line, isLine}
 use Rattle.sheet.specs.Sheets.{Page, Saved, Sheeted, frameOf, Ascending, WholePages, pagesWords, pageLines, doLines, entriesOf}
 use Rattle.sheet.specs.Reading.{next, isWord, pageCount, numbers, doCount, stages}
 use Rattle.sheet.specs.declared.line.Line.the-variants.{Page as PageLine, Word, Do}
-use Rattle.sheet_claims.proofs.Assumed.{is-line-line, values-line}
+use Rattle.sheet.proofs.LineLaws.{is-line-line, values-line}
 use Rattle.sheet_claims.proofs.Bytes.{below-take, below-drop}
 use Rattle.sheet_claims.proofs.LineKinds.{no-other, no-line, one-below, word-line, no-word}
 use Rattle.sheet_claims.proofs.WordsRead.{next-of-pages, pages-read}

@@ -15,7 +15,7 @@ use Rattle.sheet.specs.Sheets.{Sheeted, frameOf, Ascending, slots, pagesWords, 
 use Rattle.sheet.specs.Reading.{value, pageCount, numbers, pastSlots, pagesIn, pastPages, doCount, stages}
 use Rattle.sheet.specs.declared.line.Line.{Line}
 use Rattle.sheet.specs.declared.line.Line.the-variants.{Page as PageLine, Do}
-use Rattle.sheet_claims.proofs.Assumed.{line-values, values-count, values-below}
+use Rattle.sheet.proofs.LineLaws.{line-values, values-count, values-below}
 use Rattle.sheet_claims.proofs.Bytes.{below-none, below-append}
 use Rattle.sheet_claims.proofs.WordsTaken.{both, one, words-taken, pages-whole}
 

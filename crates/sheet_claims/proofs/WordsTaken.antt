@@ -14,7 +14,7 @@ use Rattle.sheet.specs.Lines.{isLine, values}
 use Rattle.sheet.specs.Sheets.{WholePages, wordLine, wordLines, slots, pagesWords}
 use Rattle.sheet.specs.Reading.{value, next, isWord, slotValue, pastSlot, littleBytes, slotBytes, pastSlots, pagesIn, pastPages}
 use Rattle.sheet.specs.declared.line.Line.the-variants.{Word}
-use Rattle.sheet_claims.proofs.Assumed.{line-values, values-count, values-below}
+use Rattle.sheet.proofs.LineLaws.{line-values, values-count, values-below}
 use Rattle.sheet_claims.proofs.Bytes.{below-none, below-append, below-first, below-rest, below-little-bytes, length-little-bytes, little-of-bytes}
 use Rattle.sheet_claims.proofs.LineKinds.{no-line, no-word}
 
