@@ -2,16 +2,17 @@
 use Prim.Native.Nat.{ℕ, _^_, _<_}
 use mathlib.Core.Bool.{Bool, true, false}
 use mathlib.Core.List.{List, [], _∷_}
-use mathlib.Core.Path.{_≡_, refl}
+use mathlib.Core.Path.{_≡_, refl, _∙_}
 use native.Mathlib.Omega.{arith}
+use lib.ListN.{length, getD}
 use borrow.Author.Tests.{eq-eqb, ne-eqb}
 use Rattle.sheet.specs.Digits.{Below}
-use Rattle.sheet.specs.Lines.{line, isLine, begins, form, values}
+use Rattle.sheet.specs.Lines.{fieldCount, line, isLine, begins, form, values}
 use Rattle.sheet.specs.Sheets.{version}
-use Rattle.sheet.specs.Reading.{isHead, isWord}
+use Rattle.sheet.specs.Reading.{value, isHead, isWord}
 use Rattle.sheet.specs.declared.line.Line.{Line}
 use Rattle.sheet.specs.declared.line.Line.the-variants.{Sheet, State, Page, Word, Do}
-use Rattle.sheet.proofs.LineLaws.{is-line-line, values-line, one-kind}
+use Rattle.sheet.proofs.LineLaws.{is-line-line, values-line, values-count, one-kind}
 use Rattle.sheet_claims.proofs.Bytes.{below-none, below-cons}
 
 -- ---- kinds
@@ -34,6 +35,23 @@ no-line Word = refl
 no-line Do = refl
 
 -- ---- lines of one number and of two
+
+one : (vs : List ℕ) → length vs ≡ 1 → vs ≡ getD vs 0 0 ∷ []
+one [] long = absurd (omega arith)
+one (v ∷ []) long = refl
+one (v ∷ w ∷ vs) long = absurd (omega arith)
+
+two : (vs : List ℕ) → length vs ≡ 2 → vs ≡ getD vs 0 0 ∷ getD vs 1 0 ∷ []
+two [] long = absurd (omega arith)
+two (v ∷ []) long = absurd (omega arith)
+two (v ∷ w ∷ []) long = refl
+two (v ∷ w ∷ u ∷ vs) long = absurd (omega arith)
+
+pub one-field : (kind : Line) (l : List ℕ) → fieldCount kind ≡ 1 → values kind l ≡ value kind 0 l ∷ []
+one-field kind l e = one (values kind l) (values-count kind l ∙ e)
+
+pub word-fields : (l : List ℕ) → values Word l ≡ value Word 0 l ∷ value Word 1 l ∷ []
+word-fields l = two (values Word l) (values-count Word l)
 
 pub one-below : (v : ℕ) → v < 2 ^ 64 → Below (2 ^ 64) (v ∷ [])
 one-below v small = below-cons (2 ^ 64) v [] small (below-none (2 ^ 64) (omega arith))

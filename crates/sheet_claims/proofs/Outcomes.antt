@@ -1,6 +1,6 @@
 -- The four ways in which reading some lines ends, each with what the lines then are. Assumes nothing.
 use Prim.Native.Nat.{ℕ, suc, _-_}
-use mathlib.Core.Bool.{Bool, true, false, true≢false}
+use mathlib.Core.Bool.{Bool, true, false, true≢false, and-eq-true-iff}
 use mathlib.Core.List.{List, [], _∷_, _++_, append-nil}
 use mathlib.Core.Path.{_≡_, refl, sym, ap, ap₂, _∙_}
 use native.Mathlib.Omega.{arith}
@@ -12,9 +12,8 @@ use Rattle.sheet.specs.Sheets.{Saved, Sheeted, version, sheetLines}
 use Rattle.sheet.specs.Reading.{sheet, noSheet, value, next, isHead, stages, parsedLines}
 use Rattle.sheet.specs.declared.line.Line.the-variants.{Sheet, State}
 use Rattle.sheet.proofs.LineLaws.{line-values, values-count, values-below}
-use Rattle.sheet_claims.proofs.LineKinds.{no-line}
+use Rattle.sheet_claims.proofs.LineKinds.{no-line, one-field}
 use Rattle.sheet_claims.proofs.StagesTaken.{stages-taken, stages-sheeted}
-use Rattle.sheet_claims.proofs.WordsTaken.{both, one}
 
 -- no `sheet` line; no `state` line; all lines are those of a run; or a line is left behind those of a run
 pub data Outcome (ls : List (List ℕ)) : Type 0 where
@@ -29,8 +28,8 @@ pub data Outcome (ls : List (List ℕ)) : Type 0 where
 head-line : (l : List ℕ) → isHead l ≡ true → line Sheet (version ∷ []) ≡ l
 unfolding isHead
 head-line l e =
-    let tests = both (isLine Sheet l) (eqb (value Sheet 0 l) version) e in
-    ap (line Sheet) (sym (one (values Sheet l) (values-count Sheet l) ∙ ap (λ (v : ℕ). v ∷ []) (eqb-true (value Sheet 0 l) version (tests .1)))) ∙ line-values Sheet l (tests .0)
+    let tests = and-eq-true-iff (isLine Sheet l) (eqb (value Sheet 0 l) version) .0 e in
+    ap (line Sheet) (sym (one-field Sheet l refl ∙ ap (λ (v : ℕ). v ∷ []) (eqb-true (value Sheet 0 l) version (tests .1)))) ∙ line-values Sheet l (tests .0)
 
 first-one : (ls : List (List ℕ)) → isHead (next ls) ≡ true → take 1 ls ≡ line Sheet (version ∷ []) ∷ []
 unfolding isHead

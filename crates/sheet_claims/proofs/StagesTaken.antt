@@ -1,6 +1,6 @@
 -- The lines that the stages take, printed again: with those that are left they are the lines that were read. Assumes nothing.
 use Prim.Native.Nat.{ℕ, suc, _*_, _/_, _^_}
-use mathlib.Core.Bool.{Bool, true, false, cond, _&&_}
+use mathlib.Core.Bool.{Bool, true, false, cond, _&&_, and-eq-true-iff}
 use mathlib.Core.List.{List, [], _∷_, _++_, append-assoc}
 use mathlib.Core.Path.{_≡_, refl}
 use native.Mathlib.Omega.{arith}
@@ -17,7 +17,8 @@ use Rattle.sheet.specs.declared.line.Line.{Line}
 use Rattle.sheet.specs.declared.line.Line.the-variants.{Page as PageLine, Do}
 use Rattle.sheet.proofs.LineLaws.{line-values, values-count, values-below}
 use Rattle.sheet_claims.proofs.Bytes.{below-none, below-append}
-use Rattle.sheet_claims.proofs.WordsTaken.{both, one, words-taken, pages-whole}
+use Rattle.sheet_claims.proofs.LineKinds.{one-field}
+use Rattle.sheet_claims.proofs.WordsTaken.{words-taken, pages-whole}
 
 numbers-small : (kind : Line) (ls : List (List ℕ)) → Below (2 ^ 64) (numbers kind ls)
 unfolding numbers
@@ -44,8 +45,8 @@ pages-taken least (l ∷ ls) more = go (isLine PageLine l && leb least frame) re
     go : (t : Bool) → (isLine PageLine l && leb least frame) ≡ t → PagesPrint (suc frame) (take (pageCount (suc frame) ls) ls) (pastSlots (pageOf entry) slots more)
         → PagesPrint least (take (cond t (suc (pageCount (suc frame) ls)) 0) (l ∷ ls)) more
     go true e after =
-        let tests = both (isLine PageLine l) (leb least frame) e in
-        let entry-is : values PageLine l ≡ entry ∷ [] = one (values PageLine l) (values-count PageLine l) in
+        let tests = and-eq-true-iff (isLine PageLine l) (leb least frame) .0 e in
+        let entry-is : values PageLine l ≡ entry ∷ [] = one-field PageLine l refl in
         rw entry-is ((leb-true least frame (tests .1), after .0), rw (after .1, ← entry-is, line-values PageLine l (tests .0)))
     go false e after = (tt, refl)
 

@@ -1,10 +1,10 @@
 -- The words that reading takes are those that its pages print. Assumes nothing.
 use Prim.Native.Nat.{ℕ, zero, suc, _+_, _*_, _^_, _<_}
-use mathlib.Core.Bool.{Bool, true, false, not, cond, _&&_, true≢false}
+use mathlib.Core.Bool.{Bool, true, false, not, cond, _&&_, and-eq-true-iff}
 use mathlib.Core.List.{List, [], _∷_, _++_, append-assoc}
-use mathlib.Core.Path.{_≡_, refl, sym, ap, _∙_}
+use mathlib.Core.Path.{_≡_, refl, ap, _∙_}
 use native.Mathlib.Omega.{arith}
-use lib.ListN.{length, getD, length-append}
+use lib.ListN.{length, length-append}
 use lib.Seq.{drop-at}
 use lib.Dec.{eqb}
 use borrow.Author.Tests.{eqb-true, not-true}
@@ -14,35 +14,20 @@ use Rattle.sheet.specs.Lines.{isLine, values}
 use Rattle.sheet.specs.Sheets.{WholePages, wordLine, wordLines, slots, pagesWords}
 use Rattle.sheet.specs.Reading.{value, next, isWord, slotValue, pastSlot, littleBytes, slotBytes, pastSlots, pagesIn, pastPages}
 use Rattle.sheet.specs.declared.line.Line.the-variants.{Word}
-use Rattle.sheet.proofs.LineLaws.{line-values, values-count, values-below}
+use Rattle.sheet.proofs.LineLaws.{line-values, values-below}
 use Rattle.sheet_claims.proofs.Bytes.{below-none, below-append, below-first, below-rest, below-little-bytes, length-little-bytes, little-of-bytes}
-use Rattle.sheet_claims.proofs.LineKinds.{no-line, no-word}
+use Rattle.sheet_claims.proofs.LineKinds.{word-fields, no-line, no-word}
 
 -- ---- one value
-
-pub both : (a b : Bool) → (a && b) ≡ true → (a ≡ true) × (b ≡ true)
-both true b e = (refl, e)
-both false b e = absurd (true≢false (sym e))
-
-pub one : (vs : List ℕ) → length vs ≡ 1 → vs ≡ getD vs 0 0 ∷ []
-one [] long = absurd (omega arith)
-one (v ∷ []) long = refl
-one (v ∷ w ∷ vs) long = absurd (omega arith)
-
-two : (vs : List ℕ) → length vs ≡ 2 → vs ≡ getD vs 0 0 ∷ getD vs 1 0 ∷ []
-two [] long = absurd (omega arith)
-two (v ∷ []) long = absurd (omega arith)
-two (v ∷ w ∷ []) long = refl
-two (v ∷ w ∷ u ∷ vs) long = absurd (omega arith)
 
 -- a line that is taken for an address is the one that its value prints there
 word-taken : (address : ℕ) (l : List ℕ) → isWord address l ≡ true → wordLine address (value Word 1 l) ≡ l ∷ []
 unfolding isWord
 word-taken address l e =
-    let is = both (isLine Word l) (eqb (value Word 0 l) address && not (eqb (value Word 1 l) 0)) e in
-    let fields = both (eqb (value Word 0 l) address) (not (eqb (value Word 1 l) 0)) (is .1) in
+    let is = and-eq-true-iff (isLine Word l) (eqb (value Word 0 l) address && not (eqb (value Word 1 l) 0)) .0 e in
+    let fields = and-eq-true-iff (eqb (value Word 0 l) address) (not (eqb (value Word 1 l) 0)) .0 (is .1) in
     let first = eqb-true (value Word 0 l) address (fields .0) in
-    let values-are : values Word l ≡ address ∷ value Word 1 l ∷ [] = two (values Word l) (values-count Word l) ∙ ap (λ (a : ℕ). a ∷ value Word 1 l ∷ []) first in
+    let values-are : values Word l ≡ address ∷ value Word 1 l ∷ [] = word-fields l ∙ ap (λ (a : ℕ). a ∷ value Word 1 l ∷ []) first in
     rw (not-true (eqb (value Word 1 l) 0) (fields .1), ← values-are, line-values Word l (is .0))
 
 slot-taken : (address : ℕ) (ls : List (List ℕ)) → wordLine address (slotValue address ls) ++ pastSlot address ls ≡ ls
