@@ -3,3 +3,4 @@
 pub mod RoundTrips
 pub mod FirstBadLine
 pub mod EqualMeaning
+pub mod Promises
