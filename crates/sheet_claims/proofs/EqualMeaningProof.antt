@@ -8,18 +8,12 @@ use Rattle.memory.specs.Extends.{HoldsPages}
 use Rattle.sheet.specs.Sheets.{Page, frameOf, Ascending, pagesOf, ascended, savedOf, text}
 use Rattle.sheet_claims.specs.EqualMeaning.{EqualText}
 use Rattle.sheet_claims.proofs.LentPages.{lent-held, lent-ascending}
-use Rattle.sheet_claims.proofs.Ordered.{Every, every-map, every-ascended, mem-ascended}
+use Rattle.sheet_claims.proofs.Ordered.{Every, every-map, every-mem, every-ascended, mem-ascended, ascending-every}
 
 -- ---- two strictly ascending lists of the same pages are one list
 
 not-below : (least : ℕ) (ps : List Page) → Ascending least ps → (p : Page) → List·Memᴰ p ps → least ≤ frameOf (p .entry)
-unfolding Ascending
-not-below least [] up p m = absurd (List·Memᴰ·not-nil m)
-not-below least (q ∷ ps) up p m = by (List·Memᴰ·cases-cons m) (not-below (suc (frameOf (q .entry))) ps (up .1) p)
-  where
-    by : (p ≡ q) ⊎ List·Memᴰ p ps → (List·Memᴰ p ps → suc (frameOf (q .entry)) ≤ frameOf (p .entry)) → least ≤ frameOf (p .entry)
-    by (inl e) later = rw e (up .0)
-    by (inr n) later = let high = later n in let low = up .0 in omega arith
+not-below least ps up p m = every-mem (λ q. least ≤ frameOf (q .entry)) (ascending-every (λ q. least ≤ frameOf (q .entry)) least ps (λ q h. h) up) m
 
 -- pages above one that are among it and others are among the others
 among-others : (q : Page) (least : ℕ) (ps qs : List Page) → frameOf (q .entry) < least → Ascending least ps → Every (λ r. List·Memᴰ r (q ∷ qs)) ps → Every (λ r. List·Memᴰ r qs) ps

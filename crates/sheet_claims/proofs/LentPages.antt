@@ -32,7 +32,7 @@ unfolding pagesOf
 lent-every P [] bytes each = tt
 lent-every P (entry ∷ entries) bytes each = (each 0 (omega arith), lent-every P entries (drop pageBytes bytes) (λ i h. subst P (sym (next-page entry entries bytes i)) (each (suc i) (omega arith))))
 
-pub lent-mem : (entries bytes : List ℕ) (i : ℕ) → i < length entries → List·Memᴰ (lentPage entries bytes i) (pagesOf entries bytes)
+lent-mem : (entries bytes : List ℕ) (i : ℕ) → i < length entries → List·Memᴰ (lentPage entries bytes i) (pagesOf entries bytes)
 unfolding pagesOf
 lent-mem [] bytes i h = absurd (omega arith)
 lent-mem (entry ∷ entries) bytes zero h = List·Memᴰ·head refl

@@ -12,10 +12,11 @@ use Rattle.sheet.specs.Sheets.{frameOf, slots}
 use Rattle.sheet.specs.Reading.{value, next, isWord, pageCount, numbers, pastSlot, pastSlots, pastPages, doCount, stages}
 use Rattle.sheet.specs.declared.line.Line.the-variants.{Page as PageLine, Do}
 
--- What a stage leaves is `past`. It leaves some line, with what follows: then it leaves the same before that line, whatever follows.
+-- In what follows `past` is what a stage leaves of some lines. Of xs and `l` it leaves ys and `l`, whatever follows them.
 abbrev Left : (List (List ℕ) → List (List ℕ)) → List (List ℕ) → List ℕ → Type 0
 Left past xs l = (ys : List (List ℕ)) × ((rest : List (List ℕ)) → past (xs ++ l ∷ rest) ≡ ys ++ l ∷ rest)
 
+-- a stage that leaves `l` before some lines leaves it before any
 record Looks (past : List (List ℕ) → List (List ℕ)) : Type 0 where
   shorter : (ls : List (List ℕ)) → length (past ls) ≤ length ls
   stops : (xs : List (List ℕ)) (l : List ℕ) (rest : List (List ℕ)) → length rest < length (past (xs ++ l ∷ rest)) → Left past xs l

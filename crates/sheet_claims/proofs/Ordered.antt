@@ -4,7 +4,7 @@ use Prim.Native.Nat.{ℕ, suc, _/_, _*_, _<_, _≤_}
 use mathlib.Core.Bool.{Bool, true, false, cond}
 use mathlib.Core.List.{List, [], _∷_, List·Memᴰ, List·Memᴰ·head, List·Memᴰ·tail, List·Memᴰ·cases-cons, Memᴰ·cast}
 use mathlib.Core.Logic.{_⊎_, inl, inr}
-use mathlib.Core.Path.{_≡_, refl, ap, _∙_}
+use mathlib.Core.Path.{_≡_, refl, sym, ap, _∙_, subst}
 use native.Mathlib.Omega.{arith}
 use lib.ListN.{length}
 use lib.Dec.{leb}
@@ -22,6 +22,10 @@ Every P (p ∷ ps) = P p × Every P ps
 pub every-map : (P Q : Page → Type 0) (ps : List Page) → ((p : Page) → P p → Q p) → Every P ps → Every Q ps
 every-map P Q [] f h = tt
 every-map P Q (p ∷ ps) f h = (f p (h .0), every-map P Q ps f (h .1))
+
+pub every-mem : (P : Page → Type 0) {p : Page} {ps : List Page} → Every P ps → List·Memᴰ p ps → P p
+every-mem P all (List·Memᴰ·head e) = subst P (sym e) (all .0)
+every-mem P all (List·Memᴰ·tail m) = every-mem P (all .1) m
 
 -- ---- a page put into its place
 
@@ -122,7 +126,7 @@ ascended-ascending (p ∷ ps) e =
 
 -- ---- what an ascending list has
 
-ascending-every : (P : Page → Type 0) (least : ℕ) (ps : List Page) → ((p : Page) → least ≤ frameOf (p .entry) → P p) → Ascending least ps → Every P ps
+pub ascending-every : (P : Page → Type 0) (least : ℕ) (ps : List Page) → ((p : Page) → least ≤ frameOf (p .entry) → P p) → Ascending least ps → Every P ps
 unfolding Ascending
 ascending-every P least [] each up = tt
 ascending-every P least (p ∷ ps) each up =
