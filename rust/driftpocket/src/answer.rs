@@ -196,6 +196,17 @@ impl Answer {
         matches!(self, Answer::Completed)
     }
 
+    /// The number that the library answers with: 0, the refusal, or 256 plus
+    /// the vector of the fault.
+    pub fn number(&self) -> u64 {
+        match self {
+            Answer::Completed => 0,
+            Answer::Refused(refusal) => refusal.number(),
+            Answer::Faulted(fault) => FAULT + fault.vector.number(),
+            Answer::Unknown(number) => *number,
+        }
+    }
+
     /// The answer of the library, which must say the same in its report.
     fn read(number: u64, report: [u64; REPORT_WORDS]) -> Answer {
         let [_, refusal, vector, error_code, address] = report;
@@ -331,11 +342,13 @@ mod tests {
             let number = refusal.number();
             let answer = read(number, [0, number, 0, 0, 0]);
             assert_eq!(answer, Answer::Refused(refusal));
+            assert_eq!(answer.number(), number);
         }
         for vector in Vector::ALL {
             let number = vector.number();
             let answer = read(256 + number, [3, 0, number, 4, 5]);
             assert_eq!(answer, Answer::Faulted(fault(vector, 4, 5)));
+            assert_eq!(answer.number(), 256 + number);
         }
     }
 
