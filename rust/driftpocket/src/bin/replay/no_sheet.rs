@@ -335,6 +335,59 @@ do\tx0000000000000003\tx0000000000000005\tx0000000000002ff0\tx0000000000000000
         assert_eq!(reason(b"", 1).found, "the end of the text");
     }
 
+    /// The first line that this module finds something wrong with.
+    fn first_wrong(text: &[u8]) -> Option<u64> {
+        let mut before = Before::default();
+        for (place, line) in (1..).zip(lines(text)) {
+            let word = fields(line)[0];
+            let mut kinds = before.kinds().iter();
+            let may_come = kinds.any(|kind| kind.word.as_bytes() == word);
+            if !may_come || before.wrong(line).is_some() {
+                return Some(place);
+            }
+            before.add(line);
+        }
+        (before.count < 2).then_some(before.count as u64 + 1)
+    }
+
+    /// Texts that differ a little from the sheet.
+    fn others() -> Vec<Vec<u8>> {
+        let text = SHEET.as_bytes();
+        let mut others = Vec::new();
+        for place in 0..text.len() {
+            others.push([&text[..place], &text[place + 1..]].concat());
+            others.push(text[..place].to_vec());
+            for byte in *b"\t\n\rx0189afA \xff" {
+                others.push([&text[..place], &[byte], &text[place..]].concat());
+                others.push([&text[..place], &[byte], &text[place + 1..]].concat());
+            }
+        }
+        let all: Vec<_> = lines(text).collect();
+        for first in 0..all.len() {
+            for second in 0..all.len() {
+                let mut moved = all.clone();
+                let line = moved.remove(first);
+                moved.insert(second, line);
+                others.push(moved.concat());
+                moved[first] = line;
+                others.push(moved.concat());
+            }
+        }
+        others
+    }
+
+    #[test]
+    fn the_line_that_the_library_names_is_the_first_that_is_found_wrong() {
+        let (mut sheets, mut none) = (0, 0);
+        for text in others() {
+            let named = Sheet::read(&text).err().and_then(|error| error.line);
+            assert_eq!(first_wrong(&text), named, "{}", text.escape_ascii());
+            sheets += usize::from(named.is_none());
+            none += usize::from(named.is_some());
+        }
+        assert!(sheets > 500 && none > 5000, "{sheets} {none}");
+    }
+
     #[test]
     fn any_line_of_any_text_has_a_reason() {
         let texts: [&[u8]; 5] = [

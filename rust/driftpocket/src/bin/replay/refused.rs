@@ -159,4 +159,21 @@ page\tx0000000000001001
         let lines = said(&text);
         assert!(lines[4].starts_with("  Its numbers are whole."));
     }
+
+    #[test]
+    fn whatever_the_text_is_something_is_said() {
+        for place in 0..SHEET.len() {
+            for byte in *b"\t\n\r\0x9A\xff" {
+                let mut text = SHEET.as_bytes().to_vec();
+                text[place] = byte;
+                let Err(error) = Sheet::read(&text) else {
+                    continue;
+                };
+                let message = message(&Source::Input, &text, error);
+                let wanted = format!(": refusal {}: ", error.refusal.number());
+                assert!(message.contains(&wanted), "{message}");
+                assert!(message.contains("\n  expected: "), "{message}");
+            }
+        }
+    }
 }
