@@ -164,7 +164,7 @@ fn a_text_without_end_is_not_waited_for() {
     let long = vec![b'\t'; (1 << 24) + 1];
     let output = replay_with(&["-"], &long);
     assert_eq!(output.status.code(), Some(1));
-    assert!(told(&output).contains("no sheet is longer than"));
+    assert!(told(&output).contains("a sheet that can be run has at most 413250"));
 }
 
 #[test]

@@ -1,6 +1,7 @@
 //! Runs to be replayed, and texts with the places that they come from.
 
 use crate::lines::lines;
+use driftpocket::sheet::MOST_TEXT;
 use driftpocket::{Instruction, PageList, Sheet, State};
 use std::fmt;
 use std::fs::File;
@@ -65,7 +66,8 @@ impl Source {
         let text = read.map_err(|error| format!("{self}: cannot be read: {error}"))?;
         if text.len() as u64 > MOST_BYTES {
             return Err(format!(
-                "{self}: not read, since no sheet is longer than {MOST_BYTES} bytes"
+                "{self}: not read, for it has more than {MOST_BYTES} bytes; \
+                 a sheet that can be run has at most {MOST_TEXT}"
             ));
         }
         Ok(text)

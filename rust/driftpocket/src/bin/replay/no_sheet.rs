@@ -207,8 +207,8 @@ word\tx0000000000002ff0\tx0000000000002ff9
 do\tx0000000000000003\tx0000000000000005\tx0000000000002ff0\tx0000000000000000
 ";
 
-    /// What is said of the line that the library refuses, where the sheet has
-    /// one text in place of another.
+    /// The line that the library refuses, where the sheet has one text in place
+    /// of another, and what is said of it.
     fn said(old: &str, new: &str) -> (u64, String, String) {
         assert!(SHEET.contains(old), "{old}");
         let text = SHEET.replacen(old, new, 1);
@@ -218,11 +218,9 @@ do\tx0000000000000003\tx0000000000000005\tx0000000000002ff0\tx0000000000000000
     }
 
     /// Holds what is said to what is wanted.
-    fn expect(cases: &[(&str, &str, u64, &str, &str)]) {
-        for (old, new, line, found, expected) in cases {
-            let wanted = (*line, found.to_string(), expected.to_string());
-            assert_eq!(said(old, new), wanted, "{old} -> {new}");
-        }
+    fn expect(old: &str, new: &str, line: u64, found: &str, expected: &str) {
+        let wanted = (line, found.to_string(), expected.to_string());
+        assert_eq!(said(old, new), wanted, "{old} -> {new}");
     }
 
     #[test]
@@ -233,93 +231,46 @@ do\tx0000000000000003\tx0000000000000005\tx0000000000002ff0\tx0000000000000000
     #[test]
     fn words_and_fields() {
         let head = "`sheet` and 1 number (version), parted by single tabs";
+        expect("sheet", "Sheet", 1, "`Sheet\\tx0000000000000001`", head);
+        expect("sheet\t", "sheet ", 1, "`sheet x0000000000000001`", head);
+        expect("sheet\t", "sheet\t\t", 1, "`sheet` and 2 more fields", head);
         let any = "`page`, `word` or `do` with its numbers, parted by single tabs; or the end of the text";
+        expect("page", "\npage", 3, "an empty line", any);
         let late = "`word` or `do` with its numbers, parted by single tabs; or the end of the text";
+        let shown = "`page\\tx0000000000000003\\tx0000000000000005\\tx0000000000002ff` ..";
+        expect("do", "page", 7, shown, late);
         let act = "`do` and 4 numbers (code, length, A, B), parted by single tabs";
-        let number = "x and 16 hexadecimal digits, lower case";
-        expect(&[
-            ("sheet", "Sheet", 1, "`Sheet\\tx0000000000000001`", head),
-            ("sheet\t", "sheet ", 1, "`sheet x0000000000000001`", head),
-            ("sheet\t", "sheet\t\t", 1, "`sheet` and 2 more fields", head),
-            ("page", "\npage", 3, "an empty line", any),
-            (
-                "do",
-                "page",
-                7,
-                "`page\\tx0000000000000003\\tx0000000000000005\\tx0000000000002ff` ..",
-                late,
-            ),
-            (
-                "\tx0000000000002ff0\tx0000000000000000",
-                "",
-                7,
-                "`do` and 2 more fields",
-                act,
-            ),
-            (
-                "x0000000000400000",
-                "7E12",
-                2,
-                "field 7 (IP) `7E12`",
-                number,
-            ),
-            (
-                "x0000000000001ff8",
-                "x0000000000001FF8",
-                5,
-                "field 2 (address) `x0000000000001FF8`",
-                number,
-            ),
-            ("x0000000000000005", "", 7, "field 3 (length) ``", number),
-        ]);
+        let last = "\tx0000000000000000\n";
+        expect(last, "\n", 7, "`do` and 3 more fields", act);
+    }
+
+    #[test]
+    fn forms_of_numbers() {
+        let form = "x and 16 hexadecimal digits, lower case";
+        let (old, new) = ("x0000000000400000", "7E12");
+        expect(old, new, 2, "field 7 (IP) `7E12`", form);
+        let (old, new) = ("x0000000000001ff8", "x0000000000001FF8");
+        let found = "field 2 (address) `x0000000000001FF8`";
+        expect(old, new, 5, found, form);
+        let old = "x0000000000000005";
+        expect(old, "", 7, "field 3 (length) ``", form);
     }
 
     #[test]
     fn rules_of_numbers() {
-        expect(&[
-            (
-                "x0000000000000001",
-                "x0000000000000002",
-                1,
-                "field 2 (version) 0x2",
-                "version 1",
-            ),
-            (
-                "2001",
-                "1002",
-                4,
-                "field 2 (entry) 0x1002",
-                "a page above 0x1000: pages ascend, none stands twice",
-            ),
-            (
-                "2ff0",
-                "2ff4",
-                6,
-                "field 2 (address) 0x2ff4",
-                "a multiple of 8",
-            ),
-            (
-                "2ff0",
-                "3ff0",
-                6,
-                "field 2 (address) 0x3ff0",
-                "an address on one of the pages",
-            ),
-            (
-                "2ff0",
-                "1ff8",
-                6,
-                "field 2 (address) 0x1ff8",
-                "an address above 0x1ff8: words ascend",
-            ),
-            (
-                "x0000000000002ff9",
-                "x0000000000000000",
-                6,
-                "field 3 (value) 0x0",
-                "not 0: where all 8 bytes are 0 no line stands",
-            ),
-        ]);
+        let (old, new) = ("0001\nstate", "0002\nstate");
+        expect(old, new, 1, "field 2 (version) 0x2", "version 1");
+        let above = "a page above 0x1000: pages ascend, none stands twice";
+        expect("2001", "1002", 4, "field 2 (entry) 0x1002", above);
+        let address = |new: &str, expected: &str| {
+            let found = format!("field 2 (address) 0x{new}");
+            expect("2ff0", new, 6, &found, expected);
+        };
+        address("2ff4", "a multiple of 8");
+        address("3ff0", "an address on one of the pages");
+        address("1ff8", "an address above 0x1ff8: words ascend");
+        let zero = "not 0: where all 8 bytes are 0 no line stands";
+        expect("2ff9", "0000", 6, "field 3 (value) 0x0", zero);
     }
 
     #[test]

@@ -13,7 +13,8 @@ usage: replay FILE             replay the run sheet in this file
        replay --restore FILE   write the text of this file (or of - or standard
                                input) to standard output, without the tabs and
                                carriage returns that a spreadsheet leaves at
-                               the ends of lines, and say whether it is a sheet
+                               the ends of lines, and say whether it is a sheet;
+                               send it to another file than FILE
        replay --worked         replay the worked cases of the rules, P1 to P13
        replay --help           this text
 
