@@ -1,13 +1,9 @@
 -- `copy` meets its contract. The invariant: what is still to be laid, from here on, gives the whole. Assumes nothing.
-use Rattle.sheet.proofs.Turns.{laid-start, laid-end}
-use lib.ListN.{length-set, drop-of-length-le}
-use Rattle.sheet.proofs.BufferLaws.{laid-nil}
-use Rattle.sheet.proofs.Turns.{laid-element}
+use Rattle.sheet.proofs.BufferLaws.{laid-start, laid-end, laid-element}
+use lib.ListN.{length-set, length, drop}
 use Rattle.sheet.specs.Buffers.{laid}
-use lib.ListN.{length, getD, drop}
-use Prim.Native.Nat.{ℕ, _+_, _-_, _*_, _≤_, _<_, _^_, _/_, _%_}
-use mathlib.Core.Path.{_≡_, refl, sym, ap, _∙_}
-use borrow.Author.Needs.{needs}
+use Prim.Native.Nat.{_+_, _-_, _<_}
+use mathlib.Core.Path.{_≡_, refl, sym, _∙_}
 use native.Mathlib.Omega.{arith}
 use Rattle.sheet.proofs.put.copy.Statement.{statement}
 use Rattle.sheet.proofs.put.copy.Tie as tie
@@ -37,7 +33,7 @@ loop-less : tie.Need-loop-less Inv-loop μ-loop
 loop-less c = omega arith
 
 loop-again : tie.Need-loop-again Inv-loop μ-loop
-loop-again c = let room : c .before .before .before .args .at + c .before .before .loop .i < length (c .before .before .loop .text) = omega arith in (c .before .before .loop .inv .0 ∙ laid-element _ _ _ _ (c .before .loop-test .taken) room, length-set _ _ _ ∙ c .before .before .loop .inv .1)
+loop-again c = let room : c .before .before .before .args .at + c .before .before .loop .i < length (c .before .before .loop .text) = omega arith in (c .before .before .loop .inv .0 ∙ laid-element _ _ _ _ (c .before .loop-test .taken) room, rw length-set (c .before .before .loop .inv .1))
 
 same-length : tie.Need-same-length Inv-loop μ-loop
 same-length c = c .before .loop .inv .1
