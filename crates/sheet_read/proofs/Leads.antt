@@ -83,6 +83,12 @@ module _ (kind : Line) where
     pub lead-end : at ≤ length t → at + width kind * n ≤ length t
     lead-end inside = let room = lead-room n (drop at t) h in let left = length-drop at t in omega arith
 
+    pub lead-front : 0 < n → begins (form kind) (drop at t) ≡ true
+    lead-front more = led kind n (drop at t) more h .front
+
+    pub lead-next : 0 < n → Lead kind (n - 1) (lines (drop (at + width kind) t))
+    lead-next more = rw (drop-drop (width kind) at t) at (led kind n (drop at t) more h .rest)
+
     pub lead-past : lines (drop (at + width kind * n) t) ≡ drop n (lines (drop at t))
     lead-past = rw (← drop-drop (width kind * n) at t) (lead-lines n (drop at t) h)
 

@@ -4,3 +4,4 @@ mod Places
 mod Stages
 mod Pages
 mod Bodies
+mod Fills

@@ -66,9 +66,6 @@ module _ (t : List ℕ) (left page here entry n : ℕ) (more : 0 < left) (stand 
       ≡ slotBytes (pageOf entry) slots (lines (drop here t)) ++ bytesOf (pagesIn (entriesIn (left - 1) (drop (page + 23) t)) (lines (drop (here + 41 * n) t)))
   pages-next = rw entries-are (pages-turn t here entry n count-is (entriesIn (left - 1) (drop (page + 23) t)))
 
-pub lead-next : (t : List ℕ) (left page : ℕ) → 0 < left → Lead Page left (lines (drop page t)) → Lead Page (left - 1) (lines (drop (page + 23) t))
-lead-next t left page more stand = rw (drop-drop 23 page t) at (led Page left (drop page t) more stand .rest)
-
 -- no page
 pub entries-none : (left : ℕ) (u : List ℕ) → left ≤ 0 → entriesIn left u ≡ []
 unfolding entriesIn

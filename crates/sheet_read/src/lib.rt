@@ -1,4 +1,5 @@
 // Reading a run sheet into lent buffers.
+mod fill;
 mod read;
 mod scan;
 

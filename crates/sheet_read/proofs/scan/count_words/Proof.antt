@@ -9,9 +9,9 @@ use borrow.Author.Needs.{needs}
 use Rattle.sheet.specs.Lines.{lines}
 use Rattle.sheet.specs.declared.line.Line.the-variants.{Page}
 use Rattle.sheet_read.specs.Scan.{Lead, wordCount, entriesIn, bodyAt, wordsAt}
-use Rattle.sheet_read.proofs.Leads.{lead-end}
+use Rattle.sheet_read.proofs.Leads.{lead-end, lead-next}
 use Rattle.sheet_read.proofs.Stages.{counted-turn, counted-end}
-use Rattle.sheet_read.proofs.Pages.{page-end, words-next, lead-next, words-none}
+use Rattle.sheet_read.proofs.Pages.{page-end, words-next, words-none}
 use Rattle.sheet_read.proofs.scan.count_words.Statement.{statement}
 use Rattle.sheet_read.proofs.scan.count_words.Tie as tie
 use Rattle.sheet_read.proofs.scan.count_words.Reads as reads
@@ -78,7 +78,7 @@ loop-again : tie.Need-loop-again Inv-loop μ-loop
 loop-again c = 
     (
       counted-turn _ _ _ (loopAt c .loop .inv .0) (words-next (text (loopAt c)) (loopAt c .loop .left) (loopAt c .loop .page) (loopAt c .loop .here) _ _ (c .before .before .loop-test .taken) (loopAt c .loop .inv .1) (c .before .number .ensures) (c .words-of-page .ensures)),
-      lead-next (text (loopAt c)) (loopAt c .loop .left) (loopAt c .loop .page) (c .before .before .loop-test .taken) (loopAt c .loop .inv .1),
+      lead-next Page (loopAt c .loop .left) (text (loopAt c)) (loopAt c .loop .page) (loopAt c .loop .inv .1) (c .before .before .loop-test .taken),
       omega (arith, past c),
       past c,
       omega arith,
