@@ -3,7 +3,7 @@ use Prim.Native.Nat.{ℕ, suc, _+_, _-_, _*_, _/_, _%_, _<_, _≤_}
 use mathlib.Core.Path.{_≡_, refl, sym, ap, _∙_}
 use mathlib.Core.Bool.{true}
 use mathlib.Core.List.{List, [], _∷_, _++_}
-use native.Mathlib.Nat.{mul-suc}
+use native.Mathlib.Nat.{add-zero, mul-suc}
 use native.Mathlib.Numerals.{add-one}
 use native.Mathlib.Omega.{arith}
 use lib.ListN.{length, getD, take, drop, set, drop-of-length-le}
@@ -12,16 +12,17 @@ use Rattle.memory.specs.Pages.{pageOf}
 use Rattle.sheet.specs.Digits.{digits, valueOf}
 use Rattle.sheet.specs.Lines.{lines, begins, form, name, fieldCount, width, values}
 use Rattle.sheet.specs.Sheets.{slots, bytesOf}
-use Rattle.sheet.specs.Reading.{value, numbers, littleBytes, slotBytes, pagesIn}
+use Rattle.sheet.specs.Reading.{value, numbers, littleBytes, slotValue, slotBytes, pagesIn}
 use Rattle.sheet.specs.Buffers.{laid}
 use Rattle.sheet.specs.declared.line.Line.{Line}
 use Rattle.sheet.specs.declared.line.Line.the-variants.{Sheet, State, Page, Word, Do}
 use Rattle.sheet.proofs.BufferLaws.{laid-nil, laid-turn, set-laid}
 use Rattle.sheet.proofs.LineLaws.{values-count}
-use Rattle.sheet_read.specs.Scan.{Lead}
+use Rattle.sheet_read.specs.Scan.{Lead, lineCount, slotCount, entriesIn}
 use Rattle.sheet_read.proofs.Leads.{led, numbers-turn, numbers-none}
 use Rattle.sheet_read.proofs.Places.{line-past, value-at}
-use Rattle.sheet_read.proofs.Pages.{little-length}
+use Rattle.sheet_read.proofs.Stages.{bytes-turn, bytes-none}
+use Rattle.sheet_read.proofs.Pages.{little-length, slots-length, pages-next, pages-none}
 
 -- one element
 laid-cons : (out : List ℕ) (at v : ℕ) (rest : List ℕ) → at < length out → laid out at (v ∷ rest) ≡ laid (set out at v) (at + 1) rest
@@ -96,3 +97,37 @@ byte-turn out at i v more room =
 pub byte-end : (out : List ℕ) (at i v : ℕ) → 8 ≤ i → laid out (at + i) (littleBytes (8 - i) v) ≡ out
 unfolding littleBytes
 byte-end out at i v end = let none : 8 - i ≡ 0 = omega arith in rw none (laid-nil out (at + i))
+
+-- ---- the values of a page
+
+pub slot-turn : (t : List ℕ) (here base slot v k : ℕ) → v ≡ slotValue (base + 8 * slot) (lines (drop here t)) → k ≡ lineCount v → slot < slots
+    → (out : List ℕ) (at : ℕ) → at + 8 * slot + 8 ≤ length out
+    → laid out (at + 8 * slot) (slotBytes (base + 8 * slot) (slots - slot) (lines (drop here t)))
+    ≡ laid (laid out (at + 8 * slot) (littleBytes 8 v)) (at + 8 * (slot + 1)) (slotBytes (base + 8 * (slot + 1)) (slots - (slot + 1)) (lines (drop (here + 41 * k) t)))
+slot-turn t here base slot v k value-is count-is more out at room =
+    let rest : List ℕ = slotBytes (base + 8 * (slot + 1)) (slots - (slot + 1)) (lines (drop (here + 41 * k) t)) in
+    let eight : length (littleBytes 8 v) ≡ 8 = little-length 8 v in
+    let next : at + 8 * slot + 8 ≡ at + 8 * (slot + 1) = omega arith in
+    rw (bytes-turn t here base slot v k value-is count-is more, laid-turn out (at + 8 * slot) (littleBytes 8 v) rest (omega arith), eight, next)
+
+pub slot-start : (out : List ℕ) (at base : ℕ) (ls : List (List ℕ)) → laid out at (slotBytes base slots ls) ≡ laid out (at + 0) (slotBytes (base + 0) slots ls)
+slot-start out at base ls = rw (add-zero at, add-zero base)
+
+pub slot-finish : (out : List ℕ) (at address slot : ℕ) (ls : List (List ℕ)) → slots ≤ slot → laid out at (slotBytes address (slots - slot) ls) ≡ out
+slot-finish out at address slot ls end = rw (bytes-none address slot ls end) (laid-nil out at)
+
+-- ---- pages
+
+pub page-laid : (t : List ℕ) (left page here entry n : ℕ) → 0 < left → Lead Page left (lines (drop page t))
+    → entry ≡ valueOf (take digits (drop (page + 6) t)) → n ≡ slotCount (pageOf entry) slots (lines (drop here t))
+    → (out : List ℕ) (to : ℕ) → to + 4096 ≤ length out
+    → laid out to (bytesOf (pagesIn (entriesIn left (drop page t)) (lines (drop here t))))
+    ≡ laid (laid out to (slotBytes (pageOf entry) slots (lines (drop here t)))) (to + 4096) (bytesOf (pagesIn (entriesIn (left - 1) (drop (page + 23) t)) (lines (drop (here + 41 * n) t))))
+page-laid t left page here entry n more stand entry-is count-is out to room =
+    let bytes : List ℕ = slotBytes (pageOf entry) slots (lines (drop here t)) in
+    let rest : List ℕ = bytesOf (pagesIn (entriesIn (left - 1) (drop (page + 23) t)) (lines (drop (here + 41 * n) t))) in
+    let long : length bytes ≡ 4096 = slots-length (pageOf entry) slots (lines (drop here t)) in
+    rw (pages-next t left page here entry n more stand entry-is count-is, laid-turn out to bytes rest (omega arith), long)
+
+pub pages-end : (left : ℕ) (u : List ℕ) (ls : List (List ℕ)) (out : List ℕ) (to : ℕ) → left ≤ 0 → laid out to (bytesOf (pagesIn (entriesIn left u) ls)) ≡ out
+pages-end left u ls out to none = rw (pages-none left u ls none) (laid-nil out to)

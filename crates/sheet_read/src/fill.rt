@@ -61,3 +61,42 @@ fn put_value(value: u64, bytes: &mut [u8], at: usize)
         i += 1;
     }
 }
+
+// The bytes of an entry's page, whose word lines begin at a place; and how many lines those are.
+fn fill_page(text: &[u8], from: usize, entry: u64, bytes: &mut [u8], at: usize) -> usize
+    requires { ⌜ (from ≤ length (now text)) × (at + pageBytes ≤ length (now bytes)) ⌝ }
+    ensures counted { λ r. ⌜ r ≡ slotCount (pageOf entry) slots (lines (drop from (now (text .entry)))) ⌝ }
+    ensures filled { λ _. ⌜ now (bytes .exit) ≡ laid (now (bytes .entry)) at (slotBytes (pageOf entry) slots (lines (drop from (now (text .entry))))) ⌝ }
+{
+    let base = entry / (PAGE_BYTES as u64) * (PAGE_BYTES as u64);
+    let mut n: usize = 0;
+    let mut here = from;
+    let mut slot: u64 = 0;
+    while slot < SLOTS {
+        let value = slot_value(text, here, base + 8 * slot);
+        put_value(value, bytes, at + 8 * (slot as usize));
+        let found = line_count(value);
+        n += found;
+        here += WORD_LINE * found;
+        slot += 1;
+    }
+    n
+}
+
+// The bytes of all pages.
+pub fn fill_pages(text: &[u8], pages: usize, bytes: &mut [u8])
+    requires { ⌜ (bodyAt ≤ length (now text)) × Lead PageLine pages (lines (drop bodyAt (now text))) × (pageBytes * pages ≤ length (now bytes)) ⌝ }
+    ensures { λ _. ⌜ now (bytes .exit) ≡ laid (now (bytes .entry)) 0 (bytesOf (pagesIn (entriesIn pages (drop bodyAt (now (text .entry)))) (lines (drop (wordsAt pages) (now (text .entry)))))) ⌝ }
+{
+    let mut here = BODY + PAGE_LINE * pages;
+    let mut page = BODY;
+    let mut to: usize = 0;
+    let mut left = pages;
+    while 0 < left {
+        let found = fill_page(text, here, number(text, page + 6), bytes, to);
+        here += WORD_LINE * found;
+        page += PAGE_LINE;
+        to += PAGE_BYTES;
+        left -= 1;
+    }
+}
