@@ -5,3 +5,4 @@ mod Stages
 mod Pages
 mod Bodies
 mod Fills
+mod Saved
