@@ -1,6 +1,6 @@
 // Reading a run sheet into lent buffers.
 mod fill;
-mod read;
+pub mod read;
 mod scan;
 
 pub use read::Reading;

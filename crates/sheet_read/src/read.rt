@@ -109,3 +109,47 @@ fn fill_all(
     let at = BODY + PAGE_LINE * shape.pages + WORD_LINE * shape.words;
     fill_lines(Line::Do, text, at, shape.steps, words);
 }
+
+// A run that passed its tests, where every part fits.
+fn load(
+    text: &[u8],
+    shape: Shape,
+    state: &mut [u64],
+    pages: &mut [u64],
+    bytes: &mut [u8],
+    words: &mut [u64],
+) -> Reading
+    requires { ⌜ Shaped (now text) shape × (shape .pages ≤ pageLimit) ⌝ }
+    ensures { λ r. ⌜ record { answer = r; buffers = record { state = now (state .exit); pages = now (pages .exit); bytes = now (bytes .exit); words = now (words .exit) } } ≡ byTest Passed (savedAt (now (text .entry)) shape) (record { state = now (state .entry); pages = now (pages .entry); bytes = now (bytes .entry); words = now (words .entry) }) ⌝ }
+{
+    let sizes = Sizes {
+        pages: shape.pages,
+        bytes: PAGE_BYTES * shape.pages,
+        words: 4 * shape.steps,
+    };
+    if !fits(sizes, state.len(), pages.len(), bytes.len(), words.len()) {
+        return Reading::TooLong(sizes);
+    }
+    fill_all(text, shape, state, pages, bytes, words);
+    Reading::Done(sizes)
+}
+
+// Reads a sheet: every part of the run goes to the front of its buffer, and what lies past it stays. A read that is refused leaves
+// every buffer as it was.
+pub fn read(
+    text: &[u8],
+    state: &mut [u64],
+    pages: &mut [u64],
+    bytes: &mut [u8],
+    words: &mut [u64],
+) -> Reading
+    ensures { λ r. ⌜ record { answer = r; buffers = record { state = now (state .exit); pages = now (pages .exit); bytes = now (bytes .exit); words = now (words .exit) } } ≡ reads (now (text .entry)) (record { state = now (state .entry); pages = now (pages .entry); bytes = now (bytes .entry); words = now (words .entry) }) ⌝ }
+{
+    match scan_sheet(text) {
+        Scan::NoSheet(line) => Reading::NoSheet(line),
+        Scan::Sheet(shape) => match judge(text, shape) {
+            Tested::Failed(refusal) => Reading::Refused(refusal),
+            Tested::Passed => load(text, shape, state, pages, bytes, words),
+        },
+    }
+}
