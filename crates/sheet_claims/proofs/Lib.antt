@@ -21,6 +21,5 @@ mod WordsTaken
 mod StagesTaken
 mod Outcomes
 mod LookAhead
-mod ValidLists
 mod Ordered
 mod LentPages
