@@ -2,3 +2,5 @@
 mod Nearer
 mod Ascending
 mod Tested
+mod Turns
+mod ValueLaws

@@ -1,5 +1,6 @@
 // Writing a run as a sheet into a lent buffer.
 mod order;
+mod values;
 mod write;
 
 pub use write::Writing;
