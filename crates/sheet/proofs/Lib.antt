@@ -1,0 +1,8 @@
+-- Laws on the lines of a sheet, for the crates above: BufferLaws on pieces laid into a buffer, DigitLaws on numbers, LineLaws on lines and
+-- on a text's lines.
+pub mod BufferLaws
+pub mod DigitLaws
+pub mod LineLaws
+mod Fields
+mod Forms
+mod Turns

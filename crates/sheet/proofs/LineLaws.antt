@@ -1,0 +1,210 @@
+-- The laws of lines and texts, for the code's proofs and the crates above.
+--
+-- How long and how large:
+--     hex-length, number-length, fields-length, line-length   what is written
+--     value-below                                             16 digits hold a number of 64 bits
+-- A line of a kind at the front of a text:
+--     line-room                                               the text is as long as the line
+--     next-line, lines-step                                   it is the text's first line
+--     line-value                                              where its numbers stand
+-- A line:
+--     values-count, values-below                              how many numbers it has, each of 64 bits
+--     is-line-line, values-line, line-values                  writing and reading are inverse
+--     one-kind                                                it is of one kind only
+-- A text:
+--     joined-lines, lines-joined, lines-append                joining lines and splitting are inverse (LinesOnly: each is a line of some kind)
+-- Assumes nothing.
+use Prim.Native.Nat.{ℕ, zero, suc, _+_, _*_, _^_, _<_, _≤_}
+use mathlib.Core.Path.{_≡_, refl, sym, ap, ap₂, _∙_}
+use mathlib.Core.Bool.{true, cond, _&&_}
+use mathlib.Core.List.{List, [], _∷_, _++_, append-assoc}
+use native.Mathlib.Omega.{arith}
+use lib.ListN.{length, take, drop, getD, length-append, length-drop, drop-of-length-le}
+use lib.Seq.{length-take-le, take-take, drop-drop, take-at, drop-at, drop-append-seam}
+use lib.Dec.{eqb}
+use borrow.Author.Tests.{eq-eqb, eqb-true}
+use Rattle.sheet.specs.Digits.{lineFeed, digits, valueOf, Below}
+use Rattle.sheet.specs.Lines.{name, fieldCount, fields, line, joined, lines, anyDigit, fieldForms, form, begins, width, isLine, valuesIn, values}
+use Rattle.sheet.specs.Reading.{next}
+use Rattle.sheet.specs.declared.line.Line.{Line}
+use Rattle.sheet.specs.declared.line.Line.the-variants.{Sheet, State, Page, Word, Do}
+use Rattle.sheet.proofs.DigitLaws.{both, and-both, same}
+use Rattle.sheet.proofs.Fields.{forms-length, values-length, forms-lack-feed, fields-begin, value-in, value-small, values-fields, fields-values}
+use Rattle.sheet.proofs.Forms.{begins-room, begins-take, begins-more, begins-parts, begins-both, lacks, lacks-append, letters-begin, begins-letters, lines-begins, begins-next}
+pub use Rattle.sheet.proofs.DigitLaws.{hex-length, number-length, value-below}
+pub use Rattle.sheet.proofs.Fields.{fields-length}
+pub use Rattle.sheet.proofs.Forms.{joined-lines}
+
+-- ---- how long a line is
+
+width-is : (kind : Line) → width kind ≡ suc (length (name kind) + 18 * fieldCount kind)
+width-is Sheet = refl
+width-is State = refl
+width-is Page = refl
+width-is Word = refl
+width-is Do = refl
+
+pub line-length : (kind : Line) (vs : List ℕ) → length vs ≡ fieldCount kind → length (line kind vs) ≡ width kind
+unfolding line
+line-length kind vs e = rw (width-is, length-append, length-append, fields-length, e) (omega arith)
+
+-- ---- the form of a line
+
+-- the end of every line, and of every form
+abbrev feed : List ℕ
+feed = lineFeed ∷ []
+
+feed-letter : lacks anyDigit feed ≡ true
+unfolding lacks
+feed-letter = refl
+
+feed-only : (u : List ℕ) → length u ≤ 1 → begins feed u ≡ true → feed ≡ u
+feed-only u short h = ap (λ (r : List ℕ). lineFeed ∷ r) (sym (drop-of-length-le u short)) ∙ begins-letters feed u feed-letter h
+
+-- a form, up to the line feed
+marks : Line → List ℕ
+marks kind = name kind ++ fieldForms (fieldCount kind)
+
+form-is : (kind : Line) → form kind ≡ marks kind ++ feed
+unfolding form marks
+form-is kind = sym (append-assoc (name kind) (fieldForms (fieldCount kind)) feed)
+
+marks-length : (kind : Line) → suc (length (marks kind)) ≡ width kind
+unfolding marks
+marks-length kind = rw (length-append, forms-length) (sym (width-is kind))
+
+form-length : (kind : Line) → length (form kind) ≡ width kind
+form-length kind = rw (form-is, length-append, ← marks-length) (omega arith)
+
+-- no name holds a line feed or the mark of a digit
+named : (kind : Line) → (lacks lineFeed (name kind) && lacks anyDigit (name kind)) ≡ true
+unfolding lacks
+named Sheet = refl
+named State = refl
+named Page = refl
+named Word = refl
+named Do = refl
+
+names-letters : (kind : Line) → (lacks lineFeed (name kind) ≡ true) × (lacks anyDigit (name kind) ≡ true)
+names-letters kind = both (lacks lineFeed (name kind)) (lacks anyDigit (name kind)) (named kind)
+
+marks-lack-feed : (kind : Line) → lacks lineFeed (marks kind) ≡ true
+unfolding marks
+marks-lack-feed kind = lacks-append lineFeed (name kind) (fieldForms (fieldCount kind)) (names-letters kind .0) (forms-lack-feed (fieldCount kind))
+
+-- ---- a line at the front of a text
+
+pub line-room : (kind : Line) (u : List ℕ) → begins (form kind) u ≡ true → width kind ≤ length u
+line-room kind u h = let room = begins-room (form kind) u h in let long = form-length kind in omega arith
+
+pub lines-step : (kind : Line) (u : List ℕ) → begins (form kind) u ≡ true → lines u ≡ take (width kind) u ∷ lines (drop (width kind) u)
+lines-step kind u h = rw (← marks-length kind) (lines-begins (marks kind) u (marks-lack-feed kind) (rw form-is at h))
+
+line-parts : (kind : Line) (l : List ℕ) → isLine kind l ≡ true → (begins (form kind) l ≡ true) × (length l ≡ width kind)
+unfolding isLine
+line-parts kind l h =
+    let parts = both (begins (form kind) l) (eqb (length l) (width kind)) h in
+    (parts .0, eqb-true (length l) (width kind) (parts .1))
+
+-- the front of such a text is a line
+front-line : (kind : Line) (u : List ℕ) → begins (form kind) u ≡ true → isLine kind (take (width kind) u) ≡ true
+unfolding isLine
+front-line kind u h =
+    let long = form-length kind in
+    and-both (begins-take (form kind) u (width kind) (omega arith) ∙ h)
+    (eq-eqb (length (take (width kind) u)) (width kind) (length-take-le (width kind) u (line-room kind u h)))
+
+pub next-line : (kind : Line) (u : List ℕ) → isLine kind (next (lines u)) ≡ begins (form kind) u
+next-line kind u =
+    same (isLine kind (next (lines u))) (begins (form kind) u) (λ h. begins-next (form kind) u (line-parts kind (next (lines u)) h .0))
+    (λ h. rw (lines-step kind u h) (front-line kind u h))
+
+-- ---- the numbers of a line
+
+pub values-count : (kind : Line) (l : List ℕ) → length (values kind l) ≡ fieldCount kind
+unfolding values
+values-count kind l = values-length (fieldCount kind) (drop (length (name kind)) l)
+
+pub values-below : (kind : Line) (l : List ℕ) → Below (2 ^ 64) (values kind l)
+unfolding values Below
+values-below kind l i = value-small (fieldCount kind) i (drop (length (name kind)) l)
+
+-- a part that lies in a front
+part-of-front : (n k w : ℕ) (u : List ℕ) → k + n ≤ w → take n (drop k (take w u)) ≡ take n (drop k u)
+part-of-front n zero w u h = take-take n w u (omega arith)
+part-of-front n (suc k) zero u h = absurd (omega arith)
+part-of-front n (suc k) (suc w) [] h = refl
+part-of-front n (suc k) (suc w) (c ∷ cs) h = part-of-front n k w cs (omega arith)
+
+pub line-value : (kind : Line) (u : List ℕ) (i : ℕ) → begins (form kind) u ≡ true → i < fieldCount kind
+    → getD (values kind (take (width kind) u)) i 0 ≡ valueOf (take digits (drop (length (name kind) + 2 + 18 * i) u))
+unfolding values
+line-value kind u i h less =
+    let wide = width-is kind in
+    let at : length (name kind) + (2 + 18 * i) ≡ length (name kind) + 2 + 18 * i = omega arith in
+    value-in (fieldCount kind) i (drop (length (name kind)) (take (width kind) u)) less
+    ∙ ap (λ (r : List ℕ). valueOf (take digits r)) (drop-drop (2 + 18 * i) (length (name kind)) (take (width kind) u) ∙ ap (λ (k : ℕ). drop k (take (width kind) u)) at)
+    ∙ ap valueOf (part-of-front digits (length (name kind) + 2 + 18 * i) (width kind) u (omega arith))
+
+-- ---- a line written and read
+
+pub is-line-line : (kind : Line) (vs : List ℕ) → length vs ≡ fieldCount kind → Below (2 ^ 64) vs → isLine kind (line kind vs) ≡ true
+unfolding isLine form line
+is-line-line kind vs e small =
+    and-both
+    (begins-both (name kind) (fieldForms (fieldCount kind) ++ feed) (name kind) (fields vs ++ feed) refl (letters-begin (name kind) (names-letters kind .1))
+    (begins-both (fieldForms (fieldCount kind)) feed (fields vs) feed (rw (← e) (fields-length vs ∙ sym (forms-length (length vs)))) (rw (← e) (fields-begin vs))
+    (letters-begin feed feed-letter)))
+    (eq-eqb (length (line kind vs)) (width kind) (line-length kind vs e))
+
+pub values-line : (kind : Line) (vs : List ℕ) → length vs ≡ fieldCount kind → Below (2 ^ 64) vs → values kind (line kind vs) ≡ vs
+unfolding values line Below
+values-line kind vs e small =
+    ap₂ valuesIn (sym e) (drop-append-seam (name kind) (fields vs ++ feed)) ∙ values-fields vs feed small
+
+pub line-values : (kind : Line) (l : List ℕ) → isLine kind l ≡ true → line kind (values kind l) ≡ l
+unfolding values line form
+line-values kind l h =
+    let n = fieldCount kind in
+    let parts = line-parts kind l h in
+    let named-parts = begins-parts (name kind) (fieldForms n ++ feed) l (parts .0) in
+    let rest = drop (length (name kind)) l in
+    let field-parts = begins-parts (fieldForms n) feed rest (named-parts .1) in
+    ap (λ (r : List ℕ). name kind ++ r)
+    (ap (λ (r : List ℕ). fields (valuesIn n rest) ++ r) (feed-only (drop (18 * n) rest) (simp length-drop (omega (arith, width-is kind))) (rw forms-length at (field-parts .1)))
+    ∙ fields-values n rest (field-parts .0))
+    ∙ begins-letters (name kind) l (names-letters kind .1) (named-parts .0)
+
+-- the kind of line of a width
+kindOf : ℕ → Line
+kindOf w = cond (eqb w 24) Sheet (cond (eqb w 186) State (cond (eqb w 23) Page (cond (eqb w 41) Word Do)))
+
+kind-of-width : (kind : Line) → kind ≡ kindOf (width kind)
+unfolding kindOf
+kind-of-width Sheet = refl
+kind-of-width State = refl
+kind-of-width Page = refl
+kind-of-width Word = refl
+kind-of-width Do = refl
+
+pub one-kind : (kind other : Line) (l : List ℕ) → isLine kind l ≡ true → isLine other l ≡ true → kind ≡ other
+one-kind kind other l h k =
+    kind-of-width kind ∙ ap kindOf (sym (line-parts kind l h .1) ∙ line-parts other l k .1) ∙ sym (kind-of-width other)
+
+-- ---- texts
+
+-- every element is a line of some kind
+unfoldable pub LinesOnly : List (List ℕ) → Type 0
+LinesOnly [] = Unit {0}
+LinesOnly (l ∷ ls) = ((kind : Line) × (isLine kind l ≡ true)) × LinesOnly ls
+
+pub lines-append : (kind : Line) (l u : List ℕ) → isLine kind l ≡ true → lines (l ++ u) ≡ l ∷ lines u
+lines-append kind l u h =
+    let parts = line-parts kind l h in
+    lines-step kind (l ++ u) (begins-more (form kind) l u (parts .0))
+    ∙ ap₂ (λ (a : List ℕ) (b : List ℕ). a ∷ lines b) (take-at l u (width kind) (parts .1)) (drop-at l u (width kind) (parts .1))
+
+pub lines-joined : (ls : List (List ℕ)) → LinesOnly ls → lines (joined ls) ≡ ls
+unfolding lines joined LinesOnly
+lines-joined [] h = refl
+lines-joined (l ∷ ls) h = lines-append (h .0 .0) l (joined ls) (h .0 .1) ∙ ap (λ (r : List (List ℕ)). l ∷ r) (lines-joined ls (h .1))

@@ -1,0 +1,31 @@
+-- `digit` meets its contract. Assumes nothing.
+use Rattle.sheet.specs.Digits.{digit}
+use borrow.Author.Tests.{lt-ltb, le-ltb}
+use native.Mathlib.Omega.{arith}
+use borrow.Author.Needs.{needs}
+use Rattle.sheet.proofs.digits.digit.Statement.{statement}
+use Rattle.sheet.proofs.digits.digit.Tie as tie
+
+add-result : tie.Need-add-result
+add-result c = search needs
+
+cast-result : tie.Need-cast-result
+cast-result c = search needs
+
+add-result-2 : tie.Need-add-result-2
+add-result-2 c = search needs
+
+cast-result-2 : tie.Need-cast-result-2
+cast-result-2 c = search needs
+
+returns : tie.Need-returns
+unfolding digit
+returns c = rw (lt-ltb _ 10 (c .if1 .taken))
+
+returns-2 : tie.Need-returns-2
+unfolding digit
+returns-2 c = rw (le-ltb _ 10 (c .if1 .left))
+
+pub digit-spec : {M : Type 1} → statement M
+digit-spec =
+    tie.close (tie.spec add-result cast-result add-result-2 cast-result-2 returns returns-2)

@@ -1,0 +1,25 @@
+-- `is_digit` meets its contract: its tests are those of the definition. Assumes nothing.
+use Rattle.sheet.specs.Digits.{isDigit}
+use borrow.Author.Tests.{le-leb, lt-leb}
+use native.Mathlib.Omega.{arith}
+use Rattle.sheet.proofs.digits.is_digit.Statement.{statement}
+use Rattle.sheet.proofs.digits.is_digit.Tie as tie
+
+returns : tie.Need-returns
+unfolding isDigit
+returns c = rw (lt-leb 48 _ (c .if1 .taken), lt-leb 97 (c .before .args .c) (omega arith))
+
+returns-2 : tie.Need-returns-2
+unfolding isDigit
+returns-2 c = rw (le-leb 48 _ (c .before .if1 .left), le-leb _ 57 (c .if2 .taken))
+
+returns-3 : tie.Need-returns-3
+unfolding isDigit
+returns-3 c = rw (le-leb 48 _ (c .before .before .if1 .left), lt-leb _ 57 (c .before .if2 .left), lt-leb 97 _ (c .if3 .taken))
+
+returns-4 : tie.Need-returns-4
+unfolding isDigit
+returns-4 c = rw (le-leb 48 _ (c .before .before .if1 .left), lt-leb _ 57 (c .before .if2 .left), le-leb 97 _ (c .if3 .left))
+
+pub is-digit-spec : {M : Type 1} → statement M
+is-digit-spec = tie.close (tie.spec returns returns-2 returns-3 returns-4)

@@ -1,0 +1,80 @@
+-- `put_fields` meets its contract. The invariant: the fields still to be laid, from here on, give the whole. Assumes nothing.
+use Rattle.sheet.specs.Digits.{tab, number}
+use mathlib.Core.List.{_∷_}
+use Rattle.sheet.proofs.DigitLaws.{number-length}
+use Rattle.sheet.proofs.BufferLaws.{length-laid}
+use Rattle.sheet.proofs.Turns.{laid-start, fields-end}
+use Rattle.sheet.proofs.LineLaws.{fields-length}
+use Rattle.sheet.proofs.BufferLaws.{laid-nil}
+use Rattle.sheet.proofs.Turns.{fields-turn}
+use Rattle.sheet.specs.Lines.{fields}
+use Rattle.sheet.specs.Buffers.{laid}
+use lib.ListN.{length, getD, drop}
+use Prim.Native.Nat.{ℕ, _+_, _-_, _*_, _≤_, _<_, _^_, _/_, _%_}
+use mathlib.Core.Path.{_≡_, refl, sym, ap, _∙_}
+use borrow.Author.Needs.{needs}
+use native.Mathlib.Omega.{arith}
+use Rattle.sheet.proofs.put.put_fields.Statement.{statement}
+use Rattle.sheet.proofs.put.put_fields.Tie as tie
+
+abbrev Inv-loop : tie.InvT-loop
+Inv-loop values text₀ at i₀ text i = (laid text₀ at (fields values) ≡ laid text (at + 18 * i) (fields (drop i values))) × (length text ≡ length text₀) × (i ≤ length values)
+
+abbrev μ-loop : tie.MeasureT-loop
+μ-loop values text₀ at i₀ text i = length values - i
+
+loop-holds : tie.Need-loop-holds Inv-loop μ-loop
+loop-holds c = (laid-start _ _ _, refl, omega arith)
+
+mul-put-field : tie.Need-mul-put-field Inv-loop μ-loop
+mul-put-field c = search needs
+
+shared-slice-read-put-field : tie.Need-shared-slice-read-put-field Inv-loop μ-loop
+shared-slice-read-put-field c = omega arith
+
+mul-put-field-2 : tie.Need-mul-put-field-2 Inv-loop μ-loop
+mul-put-field-2 c = omega (arith, fields-length (c .before .before .before .before .before .before .args .values .now), c .before .before .before .before .before .before .pre)
+
+add-put-field : tie.Need-add-put-field Inv-loop μ-loop
+add-put-field c = omega (arith, fields-length (c .before .before .before .before .before .before .args .values .now), c .before .before .before .before .before .before .pre)
+
+put-field-requires : tie.Need-put-field-requires Inv-loop μ-loop
+put-field-requires c κs = omega (arith, fields-length (c .before .before .before .before .before .before .args .values .now), c .before .before .before .before .before .before .pre)
+
+add-i : tie.Need-add-i Inv-loop μ-loop
+add-i c = omega arith
+
+loop-less : tie.Need-loop-less Inv-loop μ-loop
+loop-less c = omega arith
+
+loop-again : tie.Need-loop-again Inv-loop μ-loop
+loop-again c =
+    let text = c .before .before .before .before .before .before .loop .text in
+    let values = c .before .before .before .before .before .before .before .before .before .args .values .now in
+    let i = c .before .before .before .before .before .before .loop .i in
+    let room : c .before .before .before .before .before .before .before .before .before .args .at + 18 * i + 18 ≤ length text = omega (arith, fields-length values, c .before .before .before .before .before .before .before .before .before .pre) in
+    (c .before .before .before .before .before .before .loop .inv .0 ∙ (fields-turn text (c .before .before .before .before .before .before .before .before .before .args .at) values i (c .before .before .before .before .before .loop-test .taken) room ∙ rw (c .before .before .put-field .ensures)), c .before .text .given ∙ c .before .before .before .before .before .before .loop .inv .1, omega arith)
+
+same-length : tie.Need-same-length Inv-loop μ-loop
+same-length c = c .before .loop .inv .1
+
+returns : tie.Need-returns Inv-loop μ-loop
+returns c = sym (c .before .loop .inv .0 ∙ fields-end _ _ _ _ (c .loop-test .left))
+
+pub put-fields-spec : {M : Type 1} → statement M
+put-fields-spec =
+    tie.close
+    (tie.spec
+    Inv-loop
+    μ-loop
+    loop-holds
+    mul-put-field
+    shared-slice-read-put-field
+    mul-put-field-2
+    add-put-field
+    put-field-requires
+    add-i
+    loop-less
+    loop-again
+    same-length
+    returns)
