@@ -4,3 +4,5 @@ mod Ascending
 mod Tested
 mod Turns
 mod ValueLaws
+mod Lays
+mod Rests

@@ -3,3 +3,4 @@
 pub mod Writes
 pub mod Order
 pub mod Values
+pub mod Laying
