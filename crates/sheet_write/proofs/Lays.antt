@@ -78,6 +78,14 @@ lay-line kind values out at after wide whole room after-is wide-is =
     let long = line-length kind values whole in
     record { text = after-is ∙ laid-if out at (line kind values) (omega arith); place = omega arith }
 
+-- the next line fits
+pub line-room : (kind : Line) (values out : List ℕ) (at : ℕ) (whole now : List ℕ) (place : ℕ) (rest later : List ℕ) → length values ≡ fieldCount kind → Left out at whole now place rest
+    → Begins rest (line kind values) later → place + width kind ≤ length now
+line-room kind values out at whole now place rest later count left begins =
+    let long = line-length kind values count in
+    let room = left-room out at whole now place rest left (line kind values) later begins in
+    omega arith
+
 module _ (address value : ℕ) where
   word-none : value ≡ 0 → joined (wordLine address value) ≡ []
   unfolding joined
