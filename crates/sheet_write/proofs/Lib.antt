@@ -6,3 +6,5 @@ mod Turns
 mod ValueLaws
 mod Lays
 mod Rests
+mod Texts
+mod Sizes

@@ -23,7 +23,7 @@ use Rattle.sheet_write.proofs.Lays.{Begins, joined-append, joined-one}
 abbrev pub wordsFrom : ℕ → ℕ → List ℕ → ℕ → List ℕ
 wordsFrom base n page k = joined (wordLines (base + 8 * k) (n - k) (drop (8 * k) page))
 
-words-suc : (address n : ℕ) (bytes : List ℕ) → joined (wordLines address (suc n) bytes) ≡ joined (wordLine address (little 8 bytes)) ++ joined (wordLines (address + 8) n (drop 8 bytes))
+pub words-suc : (address n : ℕ) (bytes : List ℕ) → joined (wordLines address (suc n) bytes) ≡ joined (wordLine address (little 8 bytes)) ++ joined (wordLines (address + 8) n (drop 8 bytes))
 unfolding wordLines
 words-suc address n bytes = joined-append (wordLine address (little 8 bytes)) (wordLines (address + 8) n (drop 8 bytes))
 
@@ -53,7 +53,7 @@ module _ (base n : ℕ) (page : List ℕ) where
 abbrev pub stepsFrom : ℕ → List ℕ → ℕ → List ℕ
 stepsFrom n words k = joined (doLines (n - k) (drop (4 * k) words))
 
-steps-suc : (n : ℕ) (words : List ℕ) → joined (doLines (suc n) words) ≡ line Do (take 4 words) ++ joined (doLines n (drop 4 words))
+pub steps-suc : (n : ℕ) (words : List ℕ) → joined (doLines (suc n) words) ≡ line Do (take 4 words) ++ joined (doLines n (drop 4 words))
 unfolding doLines joined
 steps-suc n words = refl
 
@@ -79,7 +79,7 @@ module _ (n : ℕ) (words : List ℕ) where
 abbrev pub pagesFrom : Pass → List ℕ → List ℕ → ℕ → List ℕ
 pagesFrom pass entries bytes least = joined (allLines pass (from least (inOrder entries bytes)))
 
-pages-cons : (pass : Pass) (p : Page) (ps : List Page) → Begins (joined (allLines pass (p ∷ ps))) (joined (linesOf pass p)) (joined (allLines pass ps))
+pub pages-cons : (pass : Pass) (p : Page) (ps : List Page) → Begins (joined (allLines pass (p ∷ ps))) (joined (linesOf pass p)) (joined (allLines pass ps))
 unfolding allLines
 pages-cons pass p ps = record { split = joined-append (linesOf pass p) (allLines pass ps) }
 

@@ -63,7 +63,7 @@ module _ (bytes : List ℕ) (at n : ℕ) where
 
 -- ---- how many are not 0
 
-nonzeros-suc : (n : ℕ) (bytes : List ℕ) → nonzeros (suc n) bytes ≡ lineCount (little 8 bytes) + nonzeros n (drop 8 bytes)
+pub nonzeros-suc : (n : ℕ) (bytes : List ℕ) → nonzeros (suc n) bytes ≡ lineCount (little 8 bytes) + nonzeros n (drop 8 bytes)
 unfolding nonzeros
 nonzeros-suc n bytes = refl
 
