@@ -1,12 +1,16 @@
 /*
  * Driftpocket: the replay of Intel shadow-stack (CET) operations, for C99 and C++.
  *
- * One function takes a processor state, a page list with its bytes, and a list of instructions, runs the list, and says
+ * driftpocket_run takes a processor state, a page list with its bytes, and a list of instructions, runs the list, and says
  * how it ended. Link it with target/staticlib/libdriftpocket.a, which `rt staticlib driftpocket` proves and writes.
  *
- * Any numbers may be passed, and any lengths: nothing has to be tested beforehand. What is malformed is refused by a
- * number. The call always comes to an end and keeps nothing between calls.
- * The rules that it follows are in docs/RULES.md.
+ * driftpocket_sheet_read and driftpocket_sheet_write turn a run sheet, which is text, into the state, pages, bytes and
+ * instructions of a run, and back. Link them with target/staticlib/libdriftpocket_sheet.a, which `rt staticlib
+ * driftpocket_sheet` proves and writes.
+ *
+ * Any numbers may be passed, any text, and any lengths: nothing has to be tested beforehand. What is malformed is refused
+ * by a number. A call always comes to an end and keeps nothing between calls.
+ * The rules that all three follow are in docs/RULES.md.
  */
 #ifndef DRIFTPOCKET_H
 #define DRIFTPOCKET_H
@@ -21,11 +25,14 @@ extern "C" {
 /* ---- Sizes and limits ---- */
 
 #define DRIFTPOCKET_STATE_WORDS 10         /* fields of a state */
-#define DRIFTPOCKET_REPORT_WORDS 5         /* words of a report */
+#define DRIFTPOCKET_REPORT_WORDS 5         /* words of the report of a run */
+#define DRIFTPOCKET_READ_REPORT_WORDS 5    /* words of the report of a read */
+#define DRIFTPOCKET_WRITE_REPORT_WORDS 2   /* words of the report of a write */
 #define DRIFTPOCKET_INSTRUCTION_WORDS 4    /* words of an instruction */
 #define DRIFTPOCKET_PAGE_BYTES 4096        /* bytes of a page */
 #define DRIFTPOCKET_MOST_PAGES 16          /* entries of a page list, at most */
 #define DRIFTPOCKET_MOST_INSTRUCTIONS 1024 /* instructions of a run, at most */
+#define DRIFTPOCKET_MOST_TEXT 413250       /* bytes of a run's sheet, at most: full pages and 1,024 instructions */
 
 /*
  * ---- The state: positions in `state` ----
@@ -84,23 +91,27 @@ extern "C" {
 /*
  * ---- What is refused ----
  *
- * First of all 8. Then 1, 2, 3, 4, 5, 7 in this order, each over the whole input, and all of them before the first
- * instruction. 6 is tested as an instruction's turn comes, ahead of every fault of that instruction. An empty page list and
- * an empty run are good.
+ * First of all 8 for a report that is too short. A read then tests 9. Then come 1, 2, 3, 4, 5, 7 in this order, each over
+ * the whole input, and in a run all of them before the first instruction. 6 is given by runs only: it is tested as an
+ * instruction's turn comes, ahead of every fault of that instruction. In a read and in a write 8 comes once more, last of
+ * all, where the result is longer than its buffer. An empty page list and an empty run are good.
  *
- * This version gives no refusal above 8. Numbers up to 13 are set aside for it: take any answer from 1 to 255 as a refusal.
+ * This version gives no refusal above 9. Numbers up to 13 are set aside for it: take any answer from 1 to 255 as a refusal.
  */
 
-#define DRIFTPOCKET_COMPLETED 0          /* no refusal and no fault: every instruction completed */
+#define DRIFTPOCKET_COMPLETED 0          /* no refusal and no fault: every instruction completed, or the sheet was read or
+                                            written */
 #define DRIFTPOCKET_REFUSED_PAGES 1      /* more than 16 entries, or not 4,096 bytes for each */
 #define DRIFTPOCKET_REFUSED_KIND 2       /* an entry's kind is none of 1, 2, 3 */
 #define DRIFTPOCKET_REFUSED_ADDRESS 3    /* a page address is not canonical: bits 63 to 47 are not all equal */
 #define DRIFTPOCKET_REFUSED_REPEATED 4   /* two entries have one page address */
-#define DRIFTPOCKET_REFUSED_STATE 5      /* a field is out of range, or `state_len` is not 10 */
+#define DRIFTPOCKET_REFUSED_STATE 5      /* a field is out of range; or, but in a read, `state_len` is not 10 */
 #define DRIFTPOCKET_REFUSED_FORM 6       /* the instruction is not well formed; or is code 2 or 6 in mode 1; or has A or B
                                             at 2^32 or above in mode 1; or is code 7 or 8 in mode 0 */
 #define DRIFTPOCKET_REFUSED_WORDS 7      /* the word count is no multiple of 4, or there are more than 1,024 instructions */
-#define DRIFTPOCKET_REFUSED_ROOM 8       /* `report_len` is below 5 */
+#define DRIFTPOCKET_REFUSED_ROOM 8       /* `report_len` is below the words of the report; or a result of a read or a write is
+                                            longer than its buffer */
+#define DRIFTPOCKET_REFUSED_SHEET 9      /* the text is no run sheet */
 
 /*
  * ---- Faults ----
@@ -119,9 +130,20 @@ extern "C" {
 #define DRIFTPOCKET_CP_RSTORSSP 4 /* the error code of #CP(RSTORSSP). Every other fault has error code 0 */
 
 /*
- * ---- The report: positions in `report` ----
+ * ---- What the caller owes, in every call ----
  *
- * All five are written by every call, except by one that answers 8.
+ * A length counts elements: 64-bit words, but bytes for `bytes` and `text`. Each pointer is aligned for its element type and
+ * valid for its whole length, for reading and, where it is not const, for writing; all of the bytes it covers have been
+ * set. No pointer is null. With length 0 nothing is read or written through it, but it must still be aligned and not null:
+ * the address of any variable of the type will do. A buffer that is not const overlaps no other buffer of the call; while
+ * the call runs nobody else touches it, or writes the others. Calls may run in several threads at once, each with buffers of
+ * its own where they are not const.
+ */
+
+/*
+ * ---- A run ----
+ *
+ * Positions in its report. All five are written by every run, except by one that answers 8.
  */
 
 #define DRIFTPOCKET_REPORT_COUNT 0   /* how many instructions completed */
@@ -141,16 +163,76 @@ extern "C" {
  *   bytes   likewise: all stores of the completed instructions, and nothing else.
  *   report  its first five words, as above. What lies past them stays as it was.
  * If `report_len` is below 5, the answer is 8, nothing is run and nothing is written, whatever the rest of the input.
- *
- * What the caller owes. A length counts elements: 64-bit words, but bytes for `bytes`. Each pointer is aligned for its
- * element type and valid for its whole length, for reading and, where it is not const, for writing; all of the bytes it
- * covers have been set. No pointer is null. With length 0 nothing is read or written through it, but it must still be
- * aligned and not null: the address of any variable of the type will do. `state`, `bytes` and `report` overlap neither one
- * another nor `pages` or `words`; while the call runs nobody else touches those three, or writes the other two. Calls whose
- * `state`, `bytes` and `report` are their own may run in several threads at once.
  */
 uint64_t driftpocket_run(uint64_t *state, size_t state_len, const uint64_t *pages, size_t pages_len, uint8_t *bytes,
                          size_t bytes_len, const uint64_t *words, size_t words_len, uint64_t *report, size_t report_len);
+
+/*
+ * ---- Run sheets ----
+ *
+ * A sheet is lines of text, each ended by one line feed, its fields parted by single tabs. The first field is a word, the
+ * others are numbers: `x` and 16 lower-case hexadecimal digits. In this order:
+ *
+ *   sheet  1                     once: the version
+ *   state  the ten fields        once
+ *   page   the entry             for each page, strictly ascending by address
+ *   word   address, value        for each 8 bytes of a page, at a multiple of 8, that are not all 0; ascending
+ *   do     code, length, A, B    for each instruction
+ *
+ * Any other text is refusal 9. One run has one text: the same pages in another order give the same sheet.
+ *
+ * Positions in the report of a read. All five are written by every read, except where `report_len` is below 5.
+ */
+
+#define DRIFTPOCKET_READ_REFUSAL 0 /* the refusal, or 0 */
+#define DRIFTPOCKET_READ_LINE 1    /* for refusal 9 the first line, from 1, that can neither begin nor continue a sheet; a
+                                      missing line is the one after the last. Otherwise 0 */
+#define DRIFTPOCKET_READ_PAGES 2   /* the number of pages: those read; those needed with refusal 8; 0 with any other */
+#define DRIFTPOCKET_READ_BYTES 3   /* the number of bytes, likewise: 4,096 for each page */
+#define DRIFTPOCKET_READ_WORDS 4   /* the number of words, likewise: 4 for each instruction */
+
+/*
+ * Reads a sheet.
+ *
+ * Answers 0 or the refusal: 9; then 1, 2, 3, 5 or 7, as a run of what the sheet holds would; then 8, where one of the four
+ * results is longer than its buffer. 4 cannot come, since the pages of a sheet ascend.
+ *
+ * What is written, where the answer is 0:
+ *   state   the ten fields
+ *   pages   the entries, ascending
+ *   bytes   4,096 for each entry, 0 where no `word` line says otherwise
+ *   words   four for each instruction
+ * What lies past these stays as it was, and so do all four buffers on any refusal.
+ *   report  always: its first five words, as above. What lies past them stays as it was.
+ * If `report_len` is below 5, the answer is 8 and nothing is written, whatever the rest of the input.
+ *
+ * DRIFTPOCKET_STATE_WORDS, _MOST_PAGES and so on are room enough for every sheet. With buffers of length 0, refusal 8 tells
+ * the lengths that are needed.
+ */
+uint64_t driftpocket_sheet_read(const uint8_t *text, size_t text_len, uint64_t *state, size_t state_len, uint64_t *pages,
+                                size_t pages_len, uint8_t *bytes, size_t bytes_len, uint64_t *words, size_t words_len,
+                                uint64_t *report, size_t report_len);
+
+/* Positions in the report of a write. Both are written by every write, except where `report_len` is below 2. */
+
+#define DRIFTPOCKET_WRITE_REFUSAL 0 /* the refusal, or 0 */
+#define DRIFTPOCKET_WRITE_LENGTH 1  /* the length of the text: as written; as needed with refusal 8; 0 with any other */
+
+/*
+ * Writes the sheet of a run. The pages may be in any order.
+ *
+ * Answers 0 or the refusal: 1, 2, 3, 4, 5 or 7, as a run would; then 8, where the text is longer than its buffer.
+ *
+ * What is written:
+ *   text    where the answer is 0, the sheet. What lies past it stays as it was, and so does all of `text` on any refusal.
+ *   report  its first two words, as above. What lies past them stays as it was.
+ * If `report_len` is below 2, the answer is 8 and nothing is written, whatever the rest of the input.
+ *
+ * DRIFTPOCKET_MOST_TEXT is room enough for every sheet. With a `text_len` of 0, refusal 8 tells the length that is needed.
+ */
+uint64_t driftpocket_sheet_write(const uint64_t *state, size_t state_len, const uint64_t *pages, size_t pages_len,
+                                 const uint8_t *bytes, size_t bytes_len, const uint64_t *words, size_t words_len,
+                                 uint8_t *text, size_t text_len, uint64_t *report, size_t report_len);
 
 #ifdef __cplusplus
 }

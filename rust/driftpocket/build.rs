@@ -1,8 +1,8 @@
-//! Finds the proved static library and links it.
+//! Finds the two proved static libraries and links them.
 //!
-//! It is looked for in `target/staticlib` at the root of the repository, or in
-//! the directory that the variable `DRIFTPOCKET_LIB_DIR` names: a full path, or
-//! one that starts from this crate's own directory.
+//! They are looked for in `target/staticlib` at the root of the repository, or
+//! in the directory that the variable `DRIFTPOCKET_LIB_DIR` names: a full path,
+//! or one that starts from this crate's own directory.
 
 use std::env;
 use std::path::{Path, PathBuf};
@@ -11,23 +11,31 @@ use std::process::exit;
 /// The variable that names another directory.
 const VARIABLE: &str = "DRIFTPOCKET_LIB_DIR";
 
-/// The file of the library.
-const FILE: &str = "libdriftpocket.a";
+/// The libraries, by the names that `rt staticlib` takes: the replay, and the
+/// reader and writer of run sheets.
+const LIBRARIES: [&str; 2] = ["driftpocket", "driftpocket_sheet"];
 
 fn main() {
     let directory = directory();
-    let library = directory.join(FILE);
     println!("cargo:rerun-if-env-changed={VARIABLE}");
-    println!("cargo:rerun-if-changed={}", library.display());
-    if !library.is_file() {
-        complain(&library);
+    println!("cargo:rustc-link-search=native={}", directory.display());
+    let mut missing = 0;
+    for library in LIBRARIES {
+        let file = directory.join(format!("lib{library}.a"));
+        println!("cargo:rerun-if-changed={}", file.display());
+        println!("cargo:rustc-link-lib=static={library}");
+        if !file.is_file() {
+            complain(library, &file);
+            missing += 1;
+        }
+    }
+    if missing > 0 {
+        eprintln!("driftpocket: or set {VARIABLE} to the directory that has them");
         exit(1);
     }
-    println!("cargo:rustc-link-search=native={}", directory.display());
-    println!("cargo:rustc-link-lib=static=driftpocket");
 }
 
-/// Where the library is looked for.
+/// Where the libraries are looked for.
 fn directory() -> PathBuf {
     let named = env::var_os(VARIABLE).unwrap_or_else(|| "../../target/staticlib".into());
     manifest_directory().join(named)
@@ -39,9 +47,8 @@ fn manifest_directory() -> PathBuf {
     PathBuf::from(directory)
 }
 
-/// Says that the library is missing, and what helps.
-fn complain(library: &Path) {
-    eprintln!("driftpocket: there is no {}", library.display());
-    eprintln!("driftpocket: run `rt staticlib driftpocket` first, at the root of the repository,");
-    eprintln!("driftpocket: or set {VARIABLE} to the directory that has {FILE}");
+/// Says that a library is missing, and what makes it.
+fn complain(library: &str, file: &Path) {
+    eprintln!("driftpocket: there is no {}", file.display());
+    eprintln!("driftpocket: run `rt staticlib {library}` first, at the root of the repository");
 }

@@ -1,10 +1,11 @@
 -- Laws on pieces laid into a buffer, one behind the other. Assumes nothing.
 use Prim.Native.Nat.{ℕ, suc, _+_, _≤_, _<_}
-use mathlib.Core.Path.{_≡_, refl, sym, ap, _∙_}
+use mathlib.Core.Path.{_≡_, sym, ap, _∙_}
 use mathlib.Core.List.{List, [], _∷_, _++_, append-assoc}
+use native.Mathlib.Numerals.{add-one}
 use native.Mathlib.Omega.{arith}
-use lib.ListN.{length, take, drop, set, length-append, length-drop, take-append-drop}
-use lib.Seq.{length-take-le, take-append-le, take-at, drop-at, take-append-add, drop-append-add, drop-drop, set-split}
+use lib.ListN.{length, getD, take, drop, set, drop-of-length-le, length-append, length-drop, take-append-drop}
+use lib.Seq.{length-take-le, take-at, drop-append-add, drop-drop, set-split, drop-cons, lt-length-set, getD-set-same, take-set-le, drop-set-lt}
 use borrow.Author.Tests.{le-leb}
 use Rattle.sheet.specs.Buffers.{laid, laidIf}
 
@@ -40,3 +41,33 @@ laid-if out at piece room = rw (le-leb (at + length piece) (length out) room)
 pub set-laid : (out : List ℕ) (at v : ℕ) → at < length out → set out at v ≡ laid out at (v ∷ [])
 unfolding laid
 set-laid out at v h = let one : at + 1 ≡ suc at = omega arith in rw one (set-split out at v h)
+
+-- ---- pieces laid one element at a time
+
+pub laid-start : (out : List ℕ) (at : ℕ) (piece : List ℕ) → laid out at piece ≡ laid out (at + 0) piece
+laid-start out at piece = let same : at + 0 ≡ at = omega arith in rw same
+
+pub laid-end : (out : List ℕ) (at : ℕ) (piece : List ℕ) (i : ℕ) → length piece ≤ i → laid out at (drop i piece) ≡ out
+laid-end out at piece i end = rw (drop-of-length-le piece end) (laid-nil out at)
+
+-- from the left
+pub laid-element : (out : List ℕ) (at : ℕ) (piece : List ℕ) (i : ℕ) → i < length piece → at + i < length out
+    → laid out (at + i) (drop i piece) ≡ laid (set out (at + i) (getD piece i 0)) (at + (i + 1)) (drop (i + 1) piece)
+laid-element out at piece i more room =
+    let x : ℕ = getD piece i 0 in
+    let sum : at + i + 1 ≡ at + (i + 1) = omega arith in
+    let next : drop i piece ≡ (x ∷ []) ++ drop (i + 1) piece = rw (add-one i, drop-cons piece i 0 more) in
+    rw (next, laid-turn out (at + i) (x ∷ []) (drop (i + 1) piece) (omega arith), set-laid out (at + i) x room, sum)
+
+-- from the right: a last element that is in place already
+pub laid-last : (out : List ℕ) (at : ℕ) (piece : List ℕ) (x : ℕ) → at + length piece < length out
+    → laid out at (piece ++ (x ∷ [])) ≡ laid (set out (at + length piece) x) at piece
+unfolding laid
+laid-last out at piece x room =
+    let q : ℕ = at + length piece in
+    let front : take at (set out q x) ≡ take at out = take-set-le at out q x (omega arith) in
+    let back : drop q (set out q x) ≡ x ∷ drop (suc q) out =
+    drop-cons (set out q x) q 0 (lt-length-set out q x room) ∙ (ap (λ (n : ℕ). n ∷ drop (suc q) (set out q x)) (getD-set-same out q x 0 room) ∙ ap (λ (l : List ℕ). x ∷ l) (drop-set-lt (suc q) out q x (omega arith)))
+    in
+    let long : at + length (piece ++ (x ∷ [])) ≡ suc q = rw (length-append piece (x ∷ [])) (omega arith) in
+    rw (front, back, long, append-assoc piece (x ∷ []) (drop (suc q) out))

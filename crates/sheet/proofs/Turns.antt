@@ -1,20 +1,20 @@
 -- The turns of the loops: what each definition gives from a place on, in the terms of the code. Assumes nothing.
-use Prim.Native.Nat.{ℕ, suc, _+_, _-_, _*_, _/_, _%_, _^_, _<_, _≤_}
-use mathlib.Core.Path.{_≡_, refl, sym, ap, _∙_}
+use Prim.Native.Nat.{ℕ, _+_, _-_, _*_, _/_, _%_, _^_, _<_, _≤_}
+use mathlib.Core.Path.{_≡_, refl, ap, _∙_}
 use mathlib.Core.Bool.{false, true, _&&_}
-use mathlib.Core.List.{List, [], _∷_, _++_, append-assoc}
+use mathlib.Core.List.{List, [], _∷_, _++_}
 use native.Mathlib.Nat.{pow-suc, pow-le-pow-right}
 use native.Mathlib.Numerals.{add-one}
 use native.Mathlib.Omega.{arith}
 use lib.Dec.{lit<}
 use lib.ListN.{length, getD, take, drop, set, length-append, length-drop, drop-of-length-le}
-use lib.Seq.{take-all, lt-length-set, drop-cons, getD-set-same, take-set-le, drop-set-lt}
+use lib.Seq.{take-all, drop-cons}
 use Rattle.sheet.specs.Digits.{digit, digitValue, hex, number, tab, lineFeed, valueFrom}
 use Rattle.sheet.specs.Lines.{name, begins, fitsMark, fields, form, line}
 use Rattle.sheet.specs.declared.line.Line.{Line}
 use Rattle.sheet.specs.declared.line.Line.the-variants.{Sheet, State, Page, Word, Do}
 use Rattle.sheet.specs.Buffers.{laid, laidIf}
-use Rattle.sheet.proofs.BufferLaws.{length-laid, laid-nil, laid-turn, set-laid}
+use Rattle.sheet.proofs.BufferLaws.{length-laid, laid-last, laid-nil, laid-turn}
 use Rattle.sheet.proofs.DigitLaws.{hex-length, number-length}
 use Rattle.sheet.proofs.Fields.{fields-length}
 use borrow.Author.Tests.{le-leb, lt-leb}
@@ -66,36 +66,6 @@ value-room v i below more =
 
 pub value-grows : (v i d : ℕ) → v < 16 ^ i → d < 16 → v * 16 + d < 16 ^ (i + 1)
 value-grows v i d below small = rw (add-one i, pow-suc 16 i) (omega arith)
-
--- ---- pieces laid one element at a time
-
-pub laid-start : (out : List ℕ) (at : ℕ) (piece : List ℕ) → laid out at piece ≡ laid out (at + 0) piece
-laid-start out at piece = let same : at + 0 ≡ at = omega arith in rw same
-
-pub laid-end : (out : List ℕ) (at : ℕ) (piece : List ℕ) (i : ℕ) → length piece ≤ i → laid out at (drop i piece) ≡ out
-laid-end out at piece i end = rw (drop-of-length-le piece end) (laid-nil out at)
-
--- from the left
-pub laid-element : (out : List ℕ) (at : ℕ) (piece : List ℕ) (i : ℕ) → i < length piece → at + i < length out
-    → laid out (at + i) (drop i piece) ≡ laid (set out (at + i) (getD piece i 0)) (at + (i + 1)) (drop (i + 1) piece)
-laid-element out at piece i more room =
-    let x : ℕ = getD piece i 0 in
-    let sum : at + i + 1 ≡ at + (i + 1) = omega arith in
-    let next : drop i piece ≡ (x ∷ []) ++ drop (i + 1) piece = rw (add-one i, drop-cons piece i 0 more) in
-    rw (next, laid-turn out (at + i) (x ∷ []) (drop (i + 1) piece) (omega arith), set-laid out (at + i) x room, sum)
-
--- from the right: a last element that is in place already
-pub laid-last : (out : List ℕ) (at : ℕ) (piece : List ℕ) (x : ℕ) → at + length piece < length out
-    → laid out at (piece ++ (x ∷ [])) ≡ laid (set out (at + length piece) x) at piece
-unfolding laid
-laid-last out at piece x room =
-    let q : ℕ = at + length piece in
-    let front : take at (set out q x) ≡ take at out = take-set-le at out q x (omega arith) in
-    let back : drop q (set out q x) ≡ x ∷ drop (suc q) out =
-    drop-cons (set out q x) q 0 (lt-length-set out q x room) ∙ (ap (λ (n : ℕ). n ∷ drop (suc q) (set out q x)) (getD-set-same out q x 0 room) ∙ ap (λ (l : List ℕ). x ∷ l) (drop-set-lt (suc q) out q x (omega arith)))
-    in
-    let long : at + length (piece ++ (x ∷ [])) ≡ suc q = rw (length-append piece (x ∷ [])) (omega arith) in
-    rw (front, back, long, append-assoc piece (x ∷ []) (drop (suc q) out))
 
 -- ---- digits, written from the right
 

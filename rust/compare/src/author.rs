@@ -5,7 +5,7 @@
 //! dropped, and now and then written down as the end of the run.
 
 use crate::case::{Case, FOUR_GIB, REPORT_WORDS, field};
-use crate::damage::{OF_PAGES, OF_STATE, OF_WORDS, Spoiler};
+use crate::damage::{OF_PAGES, OF_STATE, OF_WORDS, spoil};
 use crate::operands::{propose, propose_any, propose_token};
 use crate::world::World;
 use driftpocket_reference::address::{Width, is_canonical};
@@ -15,7 +15,6 @@ use driftpocket_reference::operations::{Outcome, step};
 use driftpocket_reference::pages::{MOST_PAGES, PAGE_BYTES};
 use driftpocket_reference::processor::State;
 use driftpocket_reference::runs;
-use std::collections::BTreeSet;
 
 /// How often an instruction is dropped before one is taken as it is.
 const ATTEMPTS: usize = 12;
@@ -26,6 +25,13 @@ const CALL_SELF: [u64; 4] = [7, 5, 0xffff_fffb, 0];
 /// Runs that should be longer than this get as many instructions as there may
 /// be, whether they are met or not.
 const LONG: usize = 200;
+
+/// The dice of one run among those of a seed.
+pub fn numbered(seed: u64, number: u64) -> Dice {
+    let row = Dice::new(seed).any();
+    let own = Dice::new(row.wrapping_add(number)).any();
+    Dice::new(own)
+}
 
 /// Writes random cases.
 #[derive(Clone, Debug)]
@@ -44,10 +50,8 @@ struct Scene {
 impl Author {
     /// The author of one run among those of a seed.
     pub fn numbered(seed: u64, number: u64) -> Author {
-        let row = Dice::new(seed).any();
-        let own = Dice::new(row.wrapping_add(number)).any();
         Author {
-            dice: Dice::new(own),
+            dice: numbered(seed, number),
         }
     }
 
@@ -55,7 +59,11 @@ impl Author {
     pub fn any_case(&mut self) -> Case {
         let mut case = self.good_case();
         if self.dice.once_in(5) {
-            self.spoil(&mut case, &[OF_PAGES, OF_STATE, OF_WORDS].concat());
+            spoil(
+                &mut self.dice,
+                &mut case,
+                &[OF_PAGES, OF_STATE, OF_WORDS].concat(),
+            );
             self.dice.shuffle(&mut case.pages);
         }
         case.room = match self.dice.below(40) {
@@ -84,22 +92,9 @@ impl Author {
     fn good_pages(&mut self) -> Case {
         let mut case = self.good_case();
         if self.dice.once_in(8) {
-            self.spoil(&mut case, &[OF_STATE, OF_WORDS].concat());
+            spoil(&mut self.dice, &mut case, &[OF_STATE, OF_WORDS].concat());
         }
         case
-    }
-
-    /// Spoils a case in one or two ways. Each refusal that there is a way to is
-    /// as likely as the others.
-    fn spoil(&mut self, case: &mut Case, ways: &[Spoiler]) {
-        let refusals: BTreeSet<u64> = ways.iter().map(|way| way.refusal).collect();
-        let refusals = Vec::from_iter(refusals);
-        for _ in 0..self.dice.between(1, 2) {
-            let refusal = self.dice.one_of(&refusals);
-            let right = |way: &&Spoiler| way.refusal == refusal;
-            let ways: Vec<&Spoiler> = ways.iter().filter(right).collect();
-            (self.dice.one_of(&ways).spoil)(case);
-        }
     }
 
     /// The words of a run, chosen while it runs.

@@ -2,8 +2,10 @@
 
 use crate::case::{Case, FOUR_GIB, PAGE, field};
 use driftpocket_reference::address::{ABOVE_HOLE, HOLE};
+use driftpocket_reference::dice::Dice;
 use driftpocket_reference::pages::{MOST_PAGES, PAGE_BYTES};
 use driftpocket_reference::runs::{MOST_INSTRUCTIONS, WORDS};
+use std::collections::BTreeSet;
 
 /// A way to spoil an input.
 #[derive(Clone, Copy, Debug)]
@@ -99,6 +101,19 @@ pub const OF_WORDS: &[Spoiler] = &[
 /// All of them.
 pub fn all() -> impl Iterator<Item = Spoiler> + Clone {
     [OF_PAGES, OF_STATE, OF_WORDS].concat().into_iter()
+}
+
+/// Spoils a case in one or two ways. Each refusal that there is a way to is as
+/// likely as the others.
+pub fn spoil(dice: &mut Dice, case: &mut Case, ways: &[Spoiler]) {
+    let refusals: BTreeSet<u64> = ways.iter().map(|way| way.refusal).collect();
+    let refusals = Vec::from_iter(refusals);
+    for _ in 0..dice.between(1, 2) {
+        let refusal = dice.one_of(&refusals);
+        let right = |way: &&Spoiler| way.refusal == refusal;
+        let ways: Vec<&Spoiler> = ways.iter().filter(right).collect();
+        (dice.one_of(&ways).spoil)(case);
+    }
 }
 
 /// Sets a field, if there is one.

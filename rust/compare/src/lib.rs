@@ -21,6 +21,7 @@
 //! * [`reasons`]: which reasons for faults came up.
 //! * [`properties`]: what holds of pairs of runs, and the ledger.
 //! * [`rounds`]: all of it, over many random runs.
+//! * [`sheets`]: run sheets read and written, with modules of its own.
 
 #![deny(missing_docs)]
 #![forbid(unsafe_code)]
@@ -37,6 +38,7 @@ pub mod reasons;
 pub mod refusals;
 pub mod rounds;
 pub mod rows;
+pub mod sheets;
 pub mod table;
 pub mod tokens;
 pub mod worked;

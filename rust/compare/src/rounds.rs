@@ -73,7 +73,7 @@ pub fn compare(part: Part, seed: u64, numbers: Range<u64>) -> Result<Tally, Stri
 }
 
 /// Says of a text where it comes from.
-fn located(seed: u64, number: u64, text: &str) -> String {
+pub(crate) fn located(seed: u64, number: u64, text: &str) -> String {
     format!("seed {seed}, run {number}: {text}")
 }
 

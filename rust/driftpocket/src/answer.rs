@@ -31,11 +31,13 @@ pub enum Refusal {
     Words = 7,
     /// 8: too little room for the result.
     Room = 8,
+    /// 9: a text that is no run sheet.
+    Sheet = 9,
 }
 
 impl Refusal {
     /// All refusals, in the order of their numbers.
-    pub const ALL: [Refusal; 8] = [
+    pub const ALL: [Refusal; 9] = [
         Refusal::PageCount,
         Refusal::PageKind,
         Refusal::PageAddress,
@@ -44,6 +46,7 @@ impl Refusal {
         Refusal::Form,
         Refusal::Words,
         Refusal::Room,
+        Refusal::Sheet,
     ];
 
     /// The number of this refusal.
@@ -69,6 +72,7 @@ impl Refusal {
                 "the words are no multiple of 4, or there are more than 1,024 instructions"
             }
             Refusal::Room => "there is too little room for the result",
+            Refusal::Sheet => "the text is no run sheet",
         }
     }
 }
@@ -192,6 +196,17 @@ impl Answer {
         matches!(self, Answer::Completed)
     }
 
+    /// The number that the library answers with: 0, the refusal, or 256 plus
+    /// the vector of the fault.
+    pub fn number(&self) -> u64 {
+        match self {
+            Answer::Completed => 0,
+            Answer::Refused(refusal) => refusal.number(),
+            Answer::Faulted(fault) => FAULT + fault.vector.number(),
+            Answer::Unknown(number) => *number,
+        }
+    }
+
     /// The answer of the library, which must say the same in its report.
     fn read(number: u64, report: [u64; REPORT_WORDS]) -> Answer {
         let [_, refusal, vector, error_code, address] = report;
@@ -266,11 +281,12 @@ mod tests {
 
     #[test]
     fn numbers() {
-        assert_eq!(Refusal::ALL.map(Refusal::number), [1, 2, 3, 4, 5, 6, 7, 8]);
+        let numbers = Refusal::ALL.map(Refusal::number);
+        assert_eq!(numbers, [1, 2, 3, 4, 5, 6, 7, 8, 9]);
         assert_eq!(Vector::ALL.map(Vector::number), [6, 12, 13, 14, 21]);
         for number in 0..300 {
             let refusal = Refusal::from_number(number);
-            assert_eq!(refusal.is_some(), (1..=8).contains(&number));
+            assert_eq!(refusal.is_some(), (1..=9).contains(&number));
             assert!(refusal.is_none_or(|one| one.number() == number));
             let vector = Vector::from_number(number);
             assert!(vector.is_none_or(|one| one.number() == number));
@@ -326,11 +342,13 @@ mod tests {
             let number = refusal.number();
             let answer = read(number, [0, number, 0, 0, 0]);
             assert_eq!(answer, Answer::Refused(refusal));
+            assert_eq!(answer.number(), number);
         }
         for vector in Vector::ALL {
             let number = vector.number();
             let answer = read(256 + number, [3, 0, number, 4, 5]);
             assert_eq!(answer, Answer::Faulted(fault(vector, 4, 5)));
+            assert_eq!(answer.number(), 256 + number);
         }
     }
 
@@ -340,7 +358,7 @@ mod tests {
             (0, [0, 1, 0, 0, 0]),
             (1, [0, 0, 0, 0, 0]),
             (1, [0, 2, 0, 0, 0]),
-            (9, [0, 9, 0, 0, 0]),
+            (10, [0, 10, 0, 0, 0]),
             (256, [0, 0, 0, 0, 0]),
             (256 + 14, [0, 0, 13, 0, 0]),
             (256 + 7, [0, 0, 7, 0, 0]),

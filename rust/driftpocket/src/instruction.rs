@@ -5,6 +5,9 @@ use std::fmt;
 /// How many words an instruction has.
 pub const INSTRUCTION_WORDS: usize = 4;
 
+/// How many instructions a run has at most. More are refusal 7.
+pub const MOST_INSTRUCTIONS: usize = 1024;
+
 /// An instruction.
 ///
 /// Every number can be written down here. One that breaks the form of its code
@@ -130,6 +133,12 @@ impl Instruction {
             _ => None,
         }
     }
+}
+
+/// The words of a list, one instruction after the other.
+pub(crate) fn words_of(instructions: &[Instruction]) -> Vec<u64> {
+    let words = instructions.iter().flat_map(Instruction::to_words);
+    words.collect()
 }
 
 /// The name with the operands. An instruction whose operands have no meaning is

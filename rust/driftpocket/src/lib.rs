@@ -1,13 +1,16 @@
 //! The replay of Intel shadow-stack (CET) operations, for safe Rust.
 //!
-//! The work is done by a proved library that this crate links. It takes any
-//! state, any pages and any instructions, refuses what is malformed by a fixed
-//! number, and always comes to an end. So does this crate: nothing that is
-//! handed in makes it panic, and nothing has to be tested beforehand. The rules
-//! that the library follows are in `docs/RULES.md`.
+//! The work is done by proved libraries that this crate links. They take any
+//! state, any pages, any instructions and any text, refuse what is malformed by
+//! a fixed number, and always come to an end. So does this crate: nothing that
+//! is handed in makes it panic, and nothing has to be tested beforehand. The
+//! rules that the libraries follow are in `docs/RULES.md`.
 //!
 //! * [`run`] runs a list of instructions on a [`State`] and a [`PageList`].
-//! * [`run_raw`] is the library's function as it is, on plain numbers.
+//! * [`sheet`] reads and writes run sheets: state, pages and instructions as a
+//!   text that a spreadsheet cannot spoil.
+//! * [`run_raw`], [`sheet_read_raw`] and [`sheet_write_raw`] are the libraries'
+//!   functions as they are, on plain numbers.
 //! * [`trace`] says what a completed instruction loaded and stored, to be
 //!   shown to a person.
 //!
@@ -60,13 +63,15 @@ mod answer;
 mod ffi;
 mod instruction;
 mod pages;
+pub mod sheet;
 mod state;
 pub mod trace;
 
 pub use answer::{Answer, Fault, Outcome, REPORT_WORDS, Refusal, Vector};
-pub use ffi::run_raw;
-pub use instruction::{INSTRUCTION_WORDS, Instruction};
-pub use pages::{Kind, PAGE_BYTES, PageError, PageList, Size};
+pub use ffi::{run_raw, sheet_read_raw, sheet_write_raw};
+pub use instruction::{INSTRUCTION_WORDS, Instruction, MOST_INSTRUCTIONS};
+pub use pages::{Kind, MOST_PAGES, PAGE_BYTES, PageError, PageList, Size};
+pub use sheet::{Sheet, SheetError};
 pub use state::{STATE_WORDS, State, Width};
 
 /// Runs the instructions one after the other, up to the first that is refused
@@ -76,10 +81,7 @@ pub use state::{STATE_WORDS, State, Width};
 /// that is refused or faults changes neither.
 pub fn run(state: &mut State, pages: &mut PageList, instructions: &[Instruction]) -> Outcome {
     let mut fields = state.to_words();
-    let words: Vec<u64> = instructions
-        .iter()
-        .flat_map(Instruction::to_words)
-        .collect();
+    let words = instruction::words_of(instructions);
     let mut report = [0; REPORT_WORDS];
     let (entries, bytes) = pages.parts_mut();
     let number = run_raw(&mut fields, entries, bytes, &words, &mut report);

@@ -7,6 +7,9 @@ use std::fmt;
 /// How many bytes a page has.
 pub const PAGE_BYTES: usize = 4096;
 
+/// How many pages a list has at most. More are refusal 1.
+pub const MOST_PAGES: usize = 16;
+
 /// The part of an entry that holds the kind.
 const KIND_MASK: u64 = PAGE_BYTES as u64 - 1;
 

@@ -2,9 +2,10 @@
 
 mod common;
 
+use driftpocket::sheet::{MOST_TEXT, READ_REPORT_WORDS, WRITE_REPORT_WORDS};
 use driftpocket::{
-    INSTRUCTION_WORDS, Instruction, Kind, PAGE_BYTES, REPORT_WORDS, Refusal, STATE_WORDS, State,
-    Vector, run_raw,
+    INSTRUCTION_WORDS, Instruction, Kind, MOST_INSTRUCTIONS, MOST_PAGES, PAGE_BYTES, REPORT_WORDS,
+    Refusal, STATE_WORDS, Sheet, State, Vector, run_raw, sheet_read_raw, sheet_write_raw,
 };
 use std::collections::BTreeMap;
 
@@ -36,10 +37,13 @@ fn sizes_and_limits() {
     expect(&[
         ("STATE_WORDS", STATE_WORDS as u64),
         ("REPORT_WORDS", REPORT_WORDS as u64),
+        ("READ_REPORT_WORDS", READ_REPORT_WORDS as u64),
+        ("WRITE_REPORT_WORDS", WRITE_REPORT_WORDS as u64),
         ("INSTRUCTION_WORDS", INSTRUCTION_WORDS as u64),
         ("PAGE_BYTES", PAGE_BYTES as u64),
-        ("MOST_PAGES", 16),
-        ("MOST_INSTRUCTIONS", 1024),
+        ("MOST_PAGES", MOST_PAGES as u64),
+        ("MOST_INSTRUCTIONS", MOST_INSTRUCTIONS as u64),
+        ("MOST_TEXT", MOST_TEXT as u64),
     ]);
 }
 
@@ -92,6 +96,7 @@ fn refusals_and_vectors() {
         ("REFUSED_FORM", Refusal::Form.number()),
         ("REFUSED_WORDS", Refusal::Words.number()),
         ("REFUSED_ROOM", Refusal::Room.number()),
+        ("REFUSED_SHEET", Refusal::Sheet.number()),
         ("FAULT", 256),
         ("UD", Vector::InvalidOpcode.number()),
         ("SS", Vector::Stack.number()),
@@ -118,4 +123,37 @@ fn places_in_the_report() {
     assert_eq!(of_report("REPORT_VECTOR"), numbers["PF"]);
     assert_eq!(of_report("REPORT_CODE"), 0);
     assert_eq!(of_report("REPORT_ADDRESS"), 0x3000);
+}
+
+#[test]
+fn places_in_the_report_of_a_read() {
+    let numbers = numbers();
+    let read = |text: &[u8]| {
+        let mut report = [9; READ_REPORT_WORDS];
+        let answer = sheet_read_raw(text, &mut [], &mut [], &mut [], &mut [], &mut report);
+        let names = ["REFUSAL", "LINE", "PAGES", "BYTES", "WORDS"];
+        let places = names.map(|name| numbers[format!("READ_{name}").as_str()] as usize);
+        (answer, places.map(|place| report[place]))
+    };
+    let sheet = Sheet {
+        state: common::user(0x1ff0),
+        pages: common::pages(&[(0x1000, Kind::UserShadow), (0x2000, Kind::Ordinary)]),
+        instructions: vec![Instruction::incsspq(5, 0)],
+    };
+    let text = sheet.write().unwrap();
+    let room = numbers["REFUSED_ROOM"];
+    assert_eq!(read(&text), (room, [room, 0, 2, 8192, 4]));
+    let none = numbers["REFUSED_SHEET"];
+    assert_eq!(read(b"sheet\n"), (none, [none, 1, 0, 0, 0]));
+}
+
+#[test]
+fn places_in_the_report_of_a_write() {
+    let numbers = numbers();
+    let mut report = [9; WRITE_REPORT_WORDS];
+    let state = common::user(0x3000).to_words();
+    let answer = sheet_write_raw(&state, &[], &[], &[], &mut [], &mut report);
+    assert_eq!(answer, numbers["REFUSED_ROOM"]);
+    assert_eq!(report[numbers["WRITE_REFUSAL"] as usize], answer);
+    assert_eq!(report[numbers["WRITE_LENGTH"] as usize], 24 + 186);
 }

@@ -7,7 +7,8 @@
 //! exact in `i128` and reduced afterwards, and stores never touch the lent
 //! bytes but lie above them in a map of their own. An operation works on a copy
 //! of the state and lets its stores wait in a transaction until nothing can go
-//! wrong any more.
+//! wrong any more. Between the text of a sheet and the buffers of its run stand
+//! ordered maps, and a line is right if it prints as the same bytes again.
 //!
 //! * [`address`]: exact sums, their reduction, canonical addresses.
 //! * [`pages`]: reading a page list, the refusals 1 to 4, finding a byte.
@@ -17,6 +18,7 @@
 //! * [`fault`]: why an operation can't be done, and what is reported of it.
 //! * [`operations`]: reading an instruction, refusal 6, the five operations.
 //! * [`runs`]: whole runs, all refusals in their order, any input whatever.
+//! * [`sheet`]: run sheets read and written, refusals 8 and 9.
 //! * [`script`]: scripts of commands, from bytes in to bytes out.
 //! * [`dice`]: numbers that look random.
 //! * [`random`]: memory scripts made by a seeded generator.
@@ -36,4 +38,5 @@ pub mod random;
 pub mod random_operations;
 pub mod runs;
 pub mod script;
+pub mod sheet;
 pub mod transaction;

@@ -147,13 +147,7 @@ impl Stage {
     fn admit(input: &Input) -> Result<Stage, u64> {
         let memory =
             Memory::new(input.pages, input.bytes.to_vec()).map_err(|refusal| refusal.number())?;
-        let state = input.state.try_into().ok().and_then(State::read);
-        let state = state.ok_or(5_u64)?;
-        let most = MOST_INSTRUCTIONS * WORDS;
-        let words = input.words.len();
-        if !words.is_multiple_of(WORDS) || words > most {
-            return Err(7);
-        }
+        let state = admit_state(input.state, input.words.len())?;
         Ok(Stage { state, memory })
     }
 
@@ -178,6 +172,16 @@ impl Stage {
             bytes: self.memory.into_bytes(),
         }
     }
+}
+
+/// The state of a run that has so many words of instructions, unless refusal 5
+/// or 7 sends it back.
+pub(crate) fn admit_state(fields: &[u64], words: usize) -> Result<State, u64> {
+    let state = fields.try_into().ok().and_then(State::read).ok_or(5_u64)?;
+    if !words.is_multiple_of(WORDS) || words > MOST_INSTRUCTIONS * WORDS {
+        return Err(7);
+    }
+    Ok(state)
 }
 
 /// The instructions that so many words make, four words each.

@@ -1,7 +1,6 @@
 -- `digit` meets its contract. Assumes nothing.
 use Rattle.sheet.specs.Digits.{digit}
 use borrow.Author.Tests.{lt-ltb, le-ltb}
-use native.Mathlib.Omega.{arith}
 use borrow.Author.Needs.{needs}
 use Rattle.sheet.proofs.digits.digit.Statement.{statement}
 use Rattle.sheet.proofs.digits.digit.Tie as tie

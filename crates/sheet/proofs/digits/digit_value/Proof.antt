@@ -1,7 +1,6 @@
 -- `digit_value` meets its contract. Assumes nothing.
 use Rattle.sheet.specs.Digits.{digitValue}
 use borrow.Author.Tests.{lt-ltb, le-ltb}
-use native.Mathlib.Omega.{arith}
 use borrow.Author.Needs.{needs}
 use Rattle.sheet.proofs.digits.digit_value.Statement.{statement}
 use Rattle.sheet.proofs.digits.digit_value.Tie as tie

@@ -2,10 +2,10 @@
 use Rattle.sheet.specs.Digits.{valueOf, valueFrom}
 use Rattle.sheet.proofs.Turns.{rest-whole}
 use lib.Seq.{take-all}
-use lib.ListN.{length, take, drop, drop-of-length-le, length-drop}
-use Prim.Native.Nat.{ℕ, _+_, _-_, _*_, _≤_, _<_, _^_, _/_, _%_}
+use lib.ListN.{length, drop, drop-of-length-le, length-drop}
+use Prim.Native.Nat.{_+_, _-_, _≤_}
 use native.Mathlib.Omega.{arith}
-use mathlib.Core.Path.{_≡_, refl, sym, ap, _∙_}
+use mathlib.Core.Path.{_≡_}
 use borrow.Author.Needs.{needs}
 use Rattle.sheet.proofs.digits.number.Statement.{statement}
 use Rattle.sheet.proofs.digits.number.Tie as tie

@@ -3,8 +3,8 @@ use Rattle.sheet.proofs.DigitLaws.{digit-below}
 use Rattle.sheet.proofs.Turns.{value-turn, value-end, value-room, value-grows}
 use Rattle.sheet.specs.Digits.{valueOf, valueFrom}
 use lib.ListN.{length, getD, drop}
-use Prim.Native.Nat.{ℕ, _+_, _-_, _*_, _≤_, _<_, _^_, _/_, _%_}
-use mathlib.Core.Path.{_≡_, refl, sym, ap, _∙_}
+use Prim.Native.Nat.{_-_, _<_, _^_}
+use mathlib.Core.Path.{_≡_, refl, _∙_}
 use borrow.Author.Needs.{needs}
 use native.Mathlib.Omega.{arith}
 use Rattle.sheet.proofs.digits.value.Statement.{statement}

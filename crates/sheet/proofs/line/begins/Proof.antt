@@ -4,7 +4,7 @@ use Rattle.sheet.proofs.Turns.{begins-turn, begins-short, begins-end}
 use Rattle.sheet.specs.Lines.{begins}
 use lib.ListN.{length, drop}
 use Prim.Native.Nat.{_-_}
-use mathlib.Core.Path.{_≡_, refl, sym, ap, _∙_}
+use mathlib.Core.Path.{_≡_, refl, sym, _∙_}
 use borrow.Author.Needs.{needs}
 use native.Mathlib.Omega.{arith}
 use Rattle.sheet.proofs.line.begins.Statement.{statement}

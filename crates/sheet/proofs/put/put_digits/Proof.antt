@@ -1,14 +1,10 @@
 -- `put_digits` meets its contract. The invariant: the digits that are left, laid before those that are in place, give the whole. Assumes nothing.
-use Rattle.sheet.proofs.Turns.{hex-end}
-use lib.ListN.{length-set}
-use Rattle.sheet.proofs.BufferLaws.{laid-nil}
-use Rattle.sheet.proofs.Turns.{hex-turn}
+use Rattle.sheet.proofs.Turns.{hex-end, hex-turn}
+use lib.ListN.{length-set, length}
 use Rattle.sheet.specs.Digits.{hex}
 use Rattle.sheet.specs.Buffers.{laid}
-use lib.ListN.{length, getD, drop}
-use Prim.Native.Nat.{ℕ, _+_, _-_, _*_, _≤_, _<_, _^_, _/_, _%_}
-use mathlib.Core.Path.{_≡_, refl, sym, ap, _∙_}
-use borrow.Author.Needs.{needs}
+use Prim.Native.Nat.{ℕ, _+_, _-_, _≤_, _<_}
+use mathlib.Core.Path.{_≡_, refl, sym, _∙_}
 use native.Mathlib.Omega.{arith}
 use Rattle.sheet.proofs.put.put_digits.Statement.{statement}
 use Rattle.sheet.proofs.put.put_digits.Tie as tie

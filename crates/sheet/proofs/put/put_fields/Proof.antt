@@ -1,17 +1,12 @@
 -- `put_fields` meets its contract. The invariant: the fields still to be laid, from here on, give the whole. Assumes nothing.
-use Rattle.sheet.specs.Digits.{tab, number}
-use mathlib.Core.List.{_∷_}
-use Rattle.sheet.proofs.DigitLaws.{number-length}
-use Rattle.sheet.proofs.BufferLaws.{length-laid}
-use Rattle.sheet.proofs.Turns.{laid-start, fields-end}
+use Rattle.sheet.proofs.Turns.{fields-end, fields-turn}
+use Rattle.sheet.proofs.BufferLaws.{laid-start}
 use Rattle.sheet.proofs.LineLaws.{fields-length}
-use Rattle.sheet.proofs.BufferLaws.{laid-nil}
-use Rattle.sheet.proofs.Turns.{fields-turn}
 use Rattle.sheet.specs.Lines.{fields}
 use Rattle.sheet.specs.Buffers.{laid}
-use lib.ListN.{length, getD, drop}
-use Prim.Native.Nat.{ℕ, _+_, _-_, _*_, _≤_, _<_, _^_, _/_, _%_}
-use mathlib.Core.Path.{_≡_, refl, sym, ap, _∙_}
+use lib.ListN.{length, drop}
+use Prim.Native.Nat.{_+_, _-_, _*_, _≤_}
+use mathlib.Core.Path.{_≡_, refl, sym, _∙_}
 use borrow.Author.Needs.{needs}
 use native.Mathlib.Omega.{arith}
 use Rattle.sheet.proofs.put.put_fields.Statement.{statement}

@@ -1,23 +1,36 @@
 //! `replay`: shows, instruction by instruction, what the shadow stack did.
 //!
 //! * `request`: what the arguments ask for.
-//! * `input`: runs to be replayed, wherever they come from.
+//! * `input`: runs to be replayed, and texts with the places they come from.
 //! * `worked`: the worked cases of the rules, the runs that are built in.
 //! * `steps`: replaying a run by single steps, held to the whole run.
 //! * `show`: the text for a person.
+//! * `refused`: what a person is told of a text that is not read. The `reason`
+//!   comes from `no_sheet` (where it is no sheet) or `sent_back` (where its run
+//!   is refused), over the `lines` of the text. `form` has that of an
+//!   instruction.
+//! * `restore`: getting a sheet back from what a spreadsheet has saved.
 
 #![forbid(unsafe_code)]
 
+mod form;
 mod input;
+mod lines;
+mod no_sheet;
+mod reason;
+mod refused;
 mod request;
+mod restore;
+mod sent_back;
 mod show;
 mod steps;
 mod worked;
 
-use input::Run;
+use driftpocket::Sheet;
+use input::{Run, Source};
 use request::Request;
 use std::env;
-use std::io::{self, Write};
+use std::io::{self, IsTerminal, Write};
 use std::process::ExitCode;
 
 /// The status where something could not be replayed or did not agree.
@@ -28,13 +41,55 @@ const MISUSED: u8 = 2;
 
 fn main() -> ExitCode {
     let arguments: Vec<_> = env::args_os().skip(1).collect();
-    match request::read(&arguments) {
-        Ok(Request::Help) => write_out(request::HELP, true),
+    match request::read(&arguments, io::stdin().is_terminal()) {
+        Ok(Request::Help) => write_out(request::HELP.as_bytes(), true),
         Ok(Request::Worked) => match worked::runs() {
             Ok(runs) => replay_all(&runs),
             Err(error) => complain(&error.to_string(), FAILED),
         },
+        Ok(Request::Sheet(source)) => with_text(&source, replay_sheet),
+        Ok(Request::Restore(source)) => with_text(&source, restore_sheet),
         Err(message) => complain(&message, MISUSED),
+    }
+}
+
+/// Reads a text, and does something with it.
+fn with_text(source: &Source, act: fn(&Source, &[u8]) -> ExitCode) -> ExitCode {
+    match source.text() {
+        Ok(text) => act(source, &text),
+        Err(message) => complain(&message, FAILED),
+    }
+}
+
+/// Replays the run of a sheet.
+fn replay_sheet(source: &Source, text: &[u8]) -> ExitCode {
+    let sheet = match Sheet::read(text) {
+        Ok(sheet) => sheet,
+        Err(error) => return complain(&refused::message(source, text, error), FAILED),
+    };
+    let run = Run::of_sheet(source, text, sheet);
+    let replay = steps::replay(&run);
+    let well = replay.is_sound() && replay.outcome.answer.is_completed();
+    write_out(show::sheet(&run, &replay).as_bytes(), well)
+}
+
+/// Writes a text without what a spreadsheet has added, and says whether it is
+/// a sheet.
+fn restore_sheet(source: &Source, text: &[u8]) -> ExitCode {
+    let restored = restore::restored(text);
+    let taken = restore::taken(text);
+    let written = write_out(&restored, true);
+    if written != ExitCode::SUCCESS {
+        return written;
+    }
+    match Sheet::read(&restored) {
+        Ok(_) => {
+            tell(&format!(
+                "{source}: taken off the ends of lines: {taken}; it is a sheet"
+            ));
+            ExitCode::SUCCESS
+        }
+        Err(error) => complain(&refused::message(source, &restored, error), FAILED),
     }
 }
 
@@ -45,17 +100,17 @@ fn replay_all(runs: &[Run]) -> ExitCode {
     for run in runs {
         let replay = steps::replay(run);
         agreed += usize::from(replay.is_sound());
-        text.push_str(&show::run(run, &replay));
+        text.push_str(&show::worked(run, &replay));
         text.push('\n');
     }
     text.push_str(&show::summary(runs.len(), agreed));
-    write_out(&text, agreed == runs.len())
+    write_out(text.as_bytes(), agreed == runs.len())
 }
 
 /// Writes a text. The status is 0 only if all is well and the text got out.
-fn write_out(text: &str, well: bool) -> ExitCode {
+fn write_out(text: &[u8], well: bool) -> ExitCode {
     let mut out = io::stdout().lock();
-    let written = out.write_all(text.as_bytes()).and_then(|()| out.flush());
+    let written = out.write_all(text).and_then(|()| out.flush());
     match written {
         Ok(()) if well => ExitCode::SUCCESS,
         Ok(()) => ExitCode::from(FAILED),
@@ -65,6 +120,11 @@ fn write_out(text: &str, well: bool) -> ExitCode {
 
 /// Says what is wrong.
 fn complain(message: &str, status: u8) -> ExitCode {
-    eprintln!("replay: {message}");
+    tell(message);
     ExitCode::from(status)
+}
+
+/// Tells a person something. If it cannot be told, the status is left to say.
+fn tell(message: &str) {
+    let _ = writeln!(io::stderr(), "replay: {message}");
 }

@@ -1,71 +1,140 @@
 //! What the arguments ask for.
 
-use std::ffi::OsString;
+use crate::input::Source;
+use std::ffi::{OsStr, OsString};
 
 /// What the program says about itself.
 pub const HELP: &str = "\
 replay: shows, instruction by instruction, what the shadow stack did.
 
-usage: replay            replay the worked cases of the rules (P1 to P13)
-       replay --help     this text
+usage: replay FILE             replay the run sheet in this file
+       replay -                the same from standard input; so does replay
+                               alone, unless that is a terminal
+       replay --restore FILE   write the text of this file (or of - or standard
+                               input) to standard output, without the tabs and
+                               carriage returns that a spreadsheet leaves at
+                               the ends of lines, and say whether it is a sheet;
+                               send it to another file than FILE
+       replay --worked         replay the worked cases of the rules, P1 to P13
+       replay --help           this text
 
-For each run it shows the state, the pages and what they hold, and then each
+For a sheet it shows the state, the pages and what they hold, and then each
 instruction with its operands, SSP and IP before and after, and every load and
-store with address, size and value. The last lines say how many instructions
-completed and, if not all did, the fault or refusal in words and numbers.
-Numbers with 0x are hexadecimal, all others decimal.
+store with address, size and value. Four lines close it: how many instructions
+completed, the answer in numbers, the answer in words, and the state after the
+last completed instruction as a line of a sheet. Numbers with 0x are
+hexadecimal, those of a sheet too, all others decimal.
+
+A text that is no sheet to the byte is not replayed. The program names the
+refusal, the line, what stands there and what was expected, on standard error.
 
 Each run is made twice: one instruction at a time, which is what is shown, and
 once as a whole. Both must come to the same end.
 
-status: 0 everything was replayed, and each whole run agreed
-        1 something could not be replayed, or did not agree
+status: 0 every instruction completed; the restored text is a sheet; or each
+          worked case was replayed
+        1 the run ended in a fault or a refusal, the text is no sheet or cannot
+          be read, or the two ways to run it did not agree
         2 the arguments make no sense
 ";
 
 /// What is asked for.
-#[derive(Clone, Copy, Debug, PartialEq, Eq)]
+#[derive(Clone, Debug, PartialEq, Eq)]
 pub enum Request {
     /// To say what the program does.
     Help,
     /// To replay the worked cases.
     Worked,
+    /// To replay a sheet.
+    Sheet(Source),
+    /// To get a sheet back from what a spreadsheet has saved.
+    Restore(Source),
 }
 
-/// Reads the arguments, or says what is wrong with them.
-pub fn read(arguments: &[OsString]) -> Result<Request, String> {
+/// Reads the arguments, or says what is wrong with them. Someone who sits at a
+/// terminal and names nothing is not waited for.
+pub fn read(arguments: &[OsString], terminal: bool) -> Result<Request, String> {
     match arguments {
-        [] => Ok(Request::Worked),
+        [] if terminal => Err("no sheet is named; see replay --help".to_string()),
+        [] => Ok(Request::Sheet(Source::Input)),
         [only] if only == "--help" || only == "-h" => Ok(Request::Help),
-        [first, ..] => Err(format!(
-            "unexpected argument '{}'; see replay --help",
-            first.display()
-        )),
+        [only] if only == "--worked" => Ok(Request::Worked),
+        [only] if only == "--restore" && terminal => {
+            Err("no text to restore is named; see replay --help".to_string())
+        }
+        [only] if only == "--restore" => Ok(Request::Restore(Source::Input)),
+        [only] => Ok(Request::Sheet(source(only)?)),
+        [first, text] if first == "--restore" => Ok(Request::Restore(source(text)?)),
+        [_, second, ..] => Err(unexpected(second)),
     }
+}
+
+/// The text that an argument names.
+fn source(argument: &OsStr) -> Result<Source, String> {
+    match argument.as_encoded_bytes() {
+        b"-" => Ok(Source::Input),
+        [] | [b'-', ..] => Err(unexpected(argument)),
+        _ => Ok(Source::File(argument.into())),
+    }
+}
+
+/// Says that an argument has no meaning.
+fn unexpected(argument: &OsStr) -> String {
+    let argument = argument.display();
+    format!("unexpected argument '{argument}'; see replay --help")
 }
 
 #[cfg(test)]
 mod tests {
     use super::*;
 
-    /// Reads these arguments.
+    /// Reads these arguments, without a terminal.
     fn read_all(arguments: &[&str]) -> Result<Request, String> {
         let arguments: Vec<_> = arguments.iter().map(OsString::from).collect();
-        read(&arguments)
+        read(&arguments, false)
     }
 
     #[test]
     fn what_is_understood() {
-        assert_eq!(read_all(&[]), Ok(Request::Worked));
-        assert_eq!(read_all(&["--help"]), Ok(Request::Help));
-        assert_eq!(read_all(&["-h"]), Ok(Request::Help));
+        let file = || Source::File("a.sheet".into());
+        let cases = [
+            (vec![], Request::Sheet(Source::Input)),
+            (vec!["-"], Request::Sheet(Source::Input)),
+            (vec!["a.sheet"], Request::Sheet(file())),
+            (vec!["--restore"], Request::Restore(Source::Input)),
+            (vec!["--restore", "-"], Request::Restore(Source::Input)),
+            (vec!["--restore", "a.sheet"], Request::Restore(file())),
+            (vec!["--worked"], Request::Worked),
+            (vec!["--help"], Request::Help),
+            (vec!["-h"], Request::Help),
+        ];
+        for (arguments, request) in cases {
+            assert_eq!(read_all(&arguments), Ok(request), "{arguments:?}");
+        }
     }
 
     #[test]
     fn what_is_not() {
-        let message = "unexpected argument '--loud'; see replay --help".to_string();
-        assert_eq!(read_all(&["--loud"]), Err(message));
-        assert!(read_all(&["--help", "more"]).is_err());
-        assert!(read_all(&[""]).is_err());
+        let cases: [(&[&str], &str); 7] = [
+            (&["--loud"], "--loud"),
+            (&[""], ""),
+            (&["--help", "more"], "more"),
+            (&["a.sheet", "b.sheet"], "b.sheet"),
+            (&["--restore", "--worked"], "--worked"),
+            (&["--restore", "a", "b"], "a"),
+            (&["--worked", ""], ""),
+        ];
+        for (arguments, named) in cases {
+            let message = format!("unexpected argument '{named}'; see replay --help");
+            assert_eq!(read_all(arguments), Err(message), "{arguments:?}");
+        }
+    }
+
+    #[test]
+    fn nobody_is_waited_for() {
+        assert!(read(&[], true).is_err());
+        assert!(read(&["--restore".into()], true).is_err());
+        let asked = read(&["-".into()], true);
+        assert_eq!(asked, Ok(Request::Sheet(Source::Input)));
     }
 }

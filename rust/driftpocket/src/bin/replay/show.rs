@@ -1,8 +1,9 @@
 //! The text for a person: a run, its steps, and how it ended.
 
+use crate::form;
 use crate::input::Run;
 use crate::steps::{Replay, Step};
-use driftpocket::{Answer, Fault, PageList, Refusal, Size, State};
+use driftpocket::{Answer, Fault, Outcome, PageList, Refusal, Sheet, Size, State};
 use std::fmt::Write;
 
 /// How many numbers are shown of one page at most.
@@ -11,8 +12,22 @@ const MOST_NUMBERS: usize = 16;
 /// How a page is divided to be shown.
 const NUMBERS_OF_A_PAGE: u64 = 512;
 
-/// A run with its replay.
-pub fn run(run: &Run, replay: &Replay) -> String {
+/// A worked run with its replay.
+pub fn worked(run: &Run, replay: &Replay) -> String {
+    let mut lines = replayed(run, replay);
+    lines.extend(end(run, replay).into_iter().map(indented));
+    text_of(lines)
+}
+
+/// The run of a sheet with its replay.
+pub fn sheet(run: &Run, replay: &Replay) -> String {
+    let mut lines = replayed(run, replay);
+    lines.extend(result(run, replay));
+    text_of(lines)
+}
+
+/// A run up to its last step.
+fn replayed(run: &Run, replay: &Replay) -> Vec<String> {
     let mut lines = vec![run.title.clone()];
     lines.extend(start(&run.state).map(indented));
     lines.extend(pages(&run.pages).into_iter().map(indented));
@@ -21,7 +36,11 @@ pub fn run(run: &Run, replay: &Replay) -> String {
         lines.extend(step(one).into_iter().map(indented));
     }
     lines.push(String::new());
-    lines.extend(end(run, replay).into_iter().map(indented));
+    lines
+}
+
+/// Lines as one text.
+fn text_of(lines: Vec<String>) -> String {
     lines.into_iter().map(|line| line + "\n").collect()
 }
 
@@ -147,23 +166,92 @@ fn end(run: &Run, replay: &Replay) -> Vec<String> {
     let outcome = replay.outcome;
     let mut text = format!("completed {} of {}", outcome.count, run.instructions.len());
     if !outcome.answer.is_completed() {
-        let next = outcome.count + 1;
-        let _ = write!(text, "; {}", stop(next, &outcome.answer));
+        let next = format!("instruction {}", outcome.count + 1);
+        let _ = write!(text, "; {}", stop(&next, &outcome.answer));
     }
     let mut lines = vec![text, format!("ends with {}", registers(&replay.state))];
-    let doubts = replay.doubts.iter();
-    lines.extend(doubts.map(|doubt| format!("DOES NOT AGREE: {doubt}")));
+    lines.extend(doubts(replay));
     lines
 }
 
+/// What does not fit together.
+fn doubts(replay: &Replay) -> impl Iterator<Item = String> {
+    let doubts = replay.doubts.iter();
+    doubts.map(|doubt| format!("DOES NOT AGREE: {doubt}"))
+}
+
+/// How the run of a sheet ended: what does not fit together, the count, the
+/// answer in numbers and in words, and the state as a line of a sheet.
+fn result(run: &Run, replay: &Replay) -> Vec<String> {
+    let Outcome { count, answer } = replay.outcome;
+    let words = match answer {
+        Answer::Completed => "every instruction completed".to_string(),
+        _ => stop(&in_its_line(run, count + 1), &answer),
+    };
+    let mut lines: Vec<_> = doubts(replay).collect();
+    lines.push(format!("count: {count} of {}", run.instructions.len()));
+    lines.push(format!("answer: {}", numbers_of(&answer)));
+    lines.push(format!("in words: {words}"));
+    lines.extend(broken_form(replay));
+    lines.push(state_line(&replay.state));
+    lines
+}
+
+/// An instruction by its number and its line.
+fn in_its_line(run: &Run, number: usize) -> String {
+    match run.line(number) {
+        Some(line) => format!("instruction {number} (line {line})"),
+        None => format!("instruction {number}"),
+    }
+}
+
+/// What the last instruction breaks, if it breaks its form.
+fn broken_form(replay: &Replay) -> Vec<String> {
+    let last = replay.steps.last();
+    let broken = last.filter(|step| step.answer == Answer::Refused(Refusal::Form));
+    let reason = broken.and_then(|step| form::reason(&step.instruction, step.before.mode));
+    reason
+        .map(|reason| reason.lines().into())
+        .unwrap_or_default()
+}
+
+/// An answer in numbers: as a whole, and its parts.
+fn numbers_of(answer: &Answer) -> String {
+    let (refusal, vector, code, address) = match answer {
+        Answer::Refused(refusal) => (refusal.number(), 0, 0, 0),
+        Answer::Faulted(fault) => (0, fault.vector.number(), fault.error_code, fault.address),
+        Answer::Completed | Answer::Unknown(_) => (0, 0, 0, 0),
+    };
+    format!(
+        "{} (refusal {refusal}, vector {vector}, error code {code}, address {address:#x})",
+        answer.number()
+    )
+}
+
+/// The `state` line of a sheet, by the library's own writer.
+fn state_line(state: &State) -> String {
+    let sheet = Sheet {
+        state: *state,
+        ..Sheet::default()
+    };
+    match sheet.write() {
+        Ok(text) => String::from_utf8_lossy(&text)
+            .lines()
+            .find(|line| line.starts_with("state\t"))
+            .unwrap_or_default()
+            .to_string(),
+        Err(refusal) => format!("no state line: {refusal}"),
+    }
+}
+
 /// Why the run stopped at an instruction, or before the first.
-fn stop(number: usize, answer: &Answer) -> String {
+fn stop(instruction: &str, answer: &Answer) -> String {
     match answer {
         Answer::Completed => String::new(),
-        Answer::Refused(Refusal::Form) => format!("instruction {number} is sent back, {answer}"),
+        Answer::Refused(Refusal::Form) => format!("{instruction} is sent back, {answer}"),
         Answer::Refused(_) => format!("the run is sent back before any step, {answer}"),
         Answer::Faulted(fault) => {
-            format!("instruction {number} faults, {fault} ({})", details(fault))
+            format!("{instruction} faults, {fault} ({})", details(fault))
         }
         Answer::Unknown(_) => format!("{answer}: the library is of another version"),
     }
@@ -186,9 +274,16 @@ mod tests {
     use crate::{steps, worked};
     use driftpocket::{Instruction, Kind};
 
-    /// The text of a run.
+    /// The text of a worked run.
     fn text(one: &Run) -> String {
-        run(one, &steps::replay(one))
+        worked(one, &steps::replay(one))
+    }
+
+    /// The last four lines of the same run as that of a sheet.
+    fn last_lines(one: &Run) -> Vec<String> {
+        let text = sheet(one, &steps::replay(one));
+        let lines: Vec<_> = text.lines().map(str::to_string).collect();
+        lines[lines.len() - 4..].to_vec()
     }
 
     /// The worked run with this place in the list.
@@ -238,6 +333,51 @@ P4. RSTORSSP switches to the stack whose token fits.
             "completed 0 of 2; the run is sent back before any step, \
              refusal 5: a field of the state is out of its range\n"
         ));
+    }
+
+    #[test]
+    fn the_end_of_a_sheet() {
+        let completed = last_lines(&worked_run(0));
+        assert_eq!(
+            completed[..3],
+            [
+                "count: 1 of 1",
+                "answer: 0 (refusal 0, vector 0, error code 0, address 0x0)",
+                "in words: every instruction completed",
+            ]
+        );
+        assert_eq!(
+            completed[3],
+            "state\tx0000000000000002\tx0000000000000003\tx0000000000000001\tx0000000000000001\
+             \tx0000000000000000\tx0000000000400005\tx0000000000005010\tx0000000000001ff8\
+             \tx0000000000000000\tx00000000ffffffff"
+        );
+        let faulted = last_lines(&worked_run(1));
+        assert_eq!(
+            faulted[..3],
+            [
+                "count: 0 of 1",
+                "answer: 270 (refusal 0, vector 14, error code 0, address 0x3000)",
+                "in words: instruction 1 faults, #PF at 0x3000 \
+                 (page fault: vector 14, error code 0, address 0x3000)",
+            ]
+        );
+    }
+
+    #[test]
+    fn the_end_of_a_sheet_with_an_instruction_that_breaks_its_form() {
+        let mut refused = worked_run(0);
+        refused.instructions[0].length = 16;
+        refused.lines_before = Some(5);
+        assert_eq!(
+            last_lines(&refused)[..3],
+            [
+                "in words: instruction 1 (line 6) is sent back, \
+                 refusal 6: the instruction breaks its form",
+                "  there: field 3 (length) 0x10",
+                "  expected: 1 to 15",
+            ]
+        );
     }
 
     #[test]

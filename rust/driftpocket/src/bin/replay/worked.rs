@@ -44,6 +44,7 @@ impl Case {
             state: self.state,
             pages,
             instructions: self.instructions,
+            lines_before: None,
         })
     }
 }
@@ -224,7 +225,29 @@ fn narrow() -> Vec<Case> {
 #[cfg(test)]
 mod tests {
     use super::*;
-    use driftpocket::run;
+    use driftpocket::{Sheet, run};
+    use std::fs;
+    use std::path::Path;
+
+    /// The stored sheets of the runs, in their order.
+    const SHEETS: [&str; 16] = [
+        "p01",
+        "p02",
+        "p03-first",
+        "p03-second",
+        "p04",
+        "p05",
+        "p06",
+        "p07",
+        "p08",
+        "p09-first",
+        "p09-second",
+        "p09-third",
+        "p10",
+        "p11",
+        "p12",
+        "p13",
+    ];
 
     /// What the rules say of each run: its outcome, and SSP, IP and RFLAGS
     /// after it.
@@ -299,6 +322,22 @@ mod tests {
             let one = &runs[number];
             let stored = one.pages.read(address, size);
             assert_eq!(stored, Some(value), "{} {address:#x}", one.title);
+        }
+    }
+
+    #[test]
+    fn the_stored_sheets_are_these_runs() {
+        let root = Path::new(env!("CARGO_MANIFEST_DIR")).join("../..");
+        for (run, name) in runs().unwrap().into_iter().zip(SHEETS) {
+            let sheet = Sheet {
+                state: run.state,
+                pages: run.pages,
+                instructions: run.instructions,
+            };
+            let file = root.join(format!("sheets/worked/{name}.sheet"));
+            let stored = fs::read(&file).unwrap();
+            assert_eq!(Ok(&stored), sheet.write().as_ref(), "{name}");
+            assert_eq!(Sheet::read(&stored), Ok(sheet), "{name}");
         }
     }
 

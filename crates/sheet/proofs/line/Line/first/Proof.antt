@@ -1,5 +1,4 @@
 -- `Line::first` meets its contract: the lengths of the names, computed. Assumes nothing.
-use mathlib.Core.Path.{_≡_, refl, sym, ap, _∙_}
 use borrow.Author.Needs.{needs}
 use Rattle.sheet.proofs.line.Line.first.Statement.{statement}
 use Rattle.sheet.proofs.line.Line.first.Tie as tie

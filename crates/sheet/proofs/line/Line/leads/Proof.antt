@@ -1,6 +1,5 @@
 -- `Line::leads` meets its contract: the forms, computed. Assumes nothing.
 use Rattle.sheet.specs.Lines.{form, fieldForms}
-use mathlib.Core.Path.{_≡_, refl, sym, ap, _∙_}
 use borrow.Author.Needs.{needs}
 use Rattle.sheet.proofs.line.Line.leads.Statement.{statement}
 use Rattle.sheet.proofs.line.Line.leads.Tie as tie

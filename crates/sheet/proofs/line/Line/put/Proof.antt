@@ -3,9 +3,9 @@ use Rattle.sheet.specs.Lines.{name}
 use Rattle.sheet.proofs.LineLaws.{fields-length}
 use Rattle.sheet.proofs.Turns.{line-out, line-laid}
 use lib.ListN.{length}
-use Prim.Native.Nat.{ℕ, _+_, _-_, _*_, _≤_, _<_, _^_, _/_, _%_}
+use Prim.Native.Nat.{ℕ, _+_, _-_, _*_, _≤_}
 use native.Mathlib.Omega.{arith}
-use mathlib.Core.Path.{_≡_, refl, sym, ap, _∙_}
+use mathlib.Core.Path.{_≡_, refl}
 use borrow.Author.Needs.{needs}
 use Rattle.sheet.proofs.line.Line.put.Statement.{statement}
 use Rattle.sheet.proofs.line.Line.put.Tie as tie

@@ -1,6 +1,4 @@
 -- `Line::put_name` meets its contract: it copies the name. Assumes nothing.
-use native.Mathlib.Omega.{arith}
-use mathlib.Core.Path.{_≡_, refl, sym, ap, _∙_}
 use borrow.Author.Needs.{needs}
 use Rattle.sheet.proofs.line.Line.put_name.Statement.{statement}
 use Rattle.sheet.proofs.line.Line.put_name.Tie as tie

@@ -1,8 +1,6 @@
 -- `Line::stands` meets its contract: it looks at the rest of the text. Assumes nothing.
 use Rattle.sheet.proofs.Turns.{begins-nothing, rest-whole}
 use lib.ListN.{drop-of-length-le}
-use native.Mathlib.Omega.{arith}
-use mathlib.Core.Path.{_≡_, refl, sym, ap, _∙_}
 use borrow.Author.Needs.{needs}
 use Rattle.sheet.proofs.line.Line.stands.Statement.{statement}
 use Rattle.sheet.proofs.line.Line.stands.Tie as tie

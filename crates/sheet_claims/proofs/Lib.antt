@@ -1,0 +1,25 @@
+-- The theorems on run sheets, each of the type of that name in specs/, and what they stand on. All of it is said of lists of lines: of
+-- bytes only the laws on single lines speak (sheet's proofs/LineLaws).
+--
+--     RoundTripsProof       reads-back, writes-back
+--     FirstBadLineProof     from-one, before, not-here
+--     EqualMeaningProof     equal-text
+--     Promised              promised: all of them
+--     SavedLaws             saved-sheeted, ascended-valid, saved-back: from the lent buffers to a sheet and back
+
+pub mod RoundTripsProof
+pub mod FirstBadLineProof
+pub mod EqualMeaningProof
+pub mod Promised
+pub mod SavedLaws
+mod Bytes
+mod LineKinds
+mod WordsRead
+mod StagesRead
+mod SheetLines
+mod WordsTaken
+mod StagesTaken
+mod Outcomes
+mod LookAhead
+mod Ordered
+mod LentPages

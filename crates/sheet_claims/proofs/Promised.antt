@@ -1,0 +1,8 @@
+-- Every claim on sheets is proved. Assumes nothing.
+use Rattle.sheet_claims.specs.Promises.{Promises}
+use Rattle.sheet_claims.proofs.RoundTripsProof.{reads-back, writes-back}
+use Rattle.sheet_claims.proofs.FirstBadLineProof.{from-one, before, not-here}
+use Rattle.sheet_claims.proofs.EqualMeaningProof.{equal-text}
+
+pub promised : Promises
+promised = record { reads-back = reads-back; writes-back = writes-back; from-one = from-one; before = before; not-here = not-here; equal-text = equal-text }

@@ -1,0 +1,13 @@
+-- Every claim on sheets in one place. The theorem `promised` (proofs/Promised.antt) is of the type here, so a claim that lost its proof
+-- would be an error. Assumes nothing.
+use Rattle.sheet_claims.specs.RoundTrips.{ReadsBack, WritesBack}
+use Rattle.sheet_claims.specs.FirstBadLine.{FromOne, Before, NotHere}
+use Rattle.sheet_claims.specs.EqualMeaning.{EqualText}
+
+pub record Promises : Type 0 where
+  pub reads-back : ReadsBack
+  pub writes-back : WritesBack
+  pub from-one : FromOne
+  pub before : Before
+  pub not-here : NotHere
+  pub equal-text : EqualText

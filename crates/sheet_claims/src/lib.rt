@@ -1,0 +1,1 @@
+// No code: what is claimed of sheets stands in specs/, the proofs in proofs/.
