@@ -2,6 +2,6 @@
 mod lay;
 mod order;
 mod values;
-mod write;
+pub mod write;
 
 pub use write::Writing;
