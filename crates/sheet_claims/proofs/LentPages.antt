@@ -10,7 +10,7 @@ use Rattle.memory.specs.Extends.{pageAt, HoldsPages}
 use Rattle.memory.specs.declared.pages.Listing.the-variants.{Valid}
 use Rattle.sheet.specs.Sheets.{Page, Ascending, pagesOf, ascended, entriesOf}
 use Rattle.sheet_claims.proofs.Ordered.{Every, ascended-ascending}
-use Rattle.sheet_claims.proofs.ValidLists.{passes}
+use Rattle.sheet.proofs.TestedLaws.{valid-list}
 
 -- the i-th page
 abbrev pub lentPage : List ℕ → List ℕ → ℕ → Page
@@ -49,4 +49,4 @@ lent-held pages₁ bytes₁ pages₂ bytes₂ holds =
 -- ---- a valid list, in ascending order
 
 pub lent-ascending : (entries bytes : List ℕ) → listing entries (length bytes) ≡ Valid → Ascending 0 (ascended (pagesOf entries bytes))
-lent-ascending entries bytes valid = ascended-ascending (pagesOf entries bytes) (rw (lent-entries entries bytes) (passes entries (length bytes) valid .apart))
+lent-ascending entries bytes valid = ascended-ascending (pagesOf entries bytes) (rw (lent-entries entries bytes) (valid-list entries (length bytes) valid .apart))

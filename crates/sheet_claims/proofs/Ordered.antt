@@ -11,7 +11,7 @@ use lib.Dec.{leb}
 use borrow.Author.Tests.{le-leb, leb-true, leb-false, eqb-false, ne-eqb}
 use Rattle.memory.specs.Pages.{pageOf, onPage, anyEntry, repeated}
 use Rattle.sheet.specs.Sheets.{Page, frameOf, Ascending, insert, ascended, entriesOf}
-use Rattle.sheet_claims.proofs.ValidLists.{neither}
+use Rattle.sheet.proofs.TestedLaws.{neither}
 
 -- ---- every page of a list
 

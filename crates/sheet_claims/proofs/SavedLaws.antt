@@ -1,28 +1,22 @@
 -- What is saved of a valid page list has a sheet; the list in ascending order, with its bytes, is valid again; and the buffers that a
 -- run with a sheet fills are saved as that run. Assumes nothing.
 use Prim.Native.Nat.{ℕ, suc, _*_, _%_, _^_, _<_}
-use mathlib.Core.Bool.{Bool, not, false}
+use mathlib.Core.Bool.{Bool, false}
 use mathlib.Core.List.{List, [], _∷_}
 use mathlib.Core.Path.{_≡_, refl, sym, ap, _∙_}
 use native.Mathlib.Omega.{arith}
 use lib.ListN.{length, drop, length-append, length-drop}
 use lib.Seq.{length-take-le, take-at, drop-at}
-use lib.Dec.{eqb, ltb}
-use borrow.Author.Tests.{eqb-true, not-false}
-use Rattle.memory.specs.Pages.{pageBytes, pageLimit, wrongLength, badKind, badAddress, anyEntry, listing}
+use Rattle.memory.specs.Pages.{pageBytes, badKind, badAddress, anyEntry, listing}
 use Rattle.memory.specs.declared.pages.Listing.the-variants.{Valid}
 use Rattle.sheet.specs.Digits.{Below}
 use Rattle.sheet.specs.Sheets.{Page, Saved, WholePage, WholePages, Sheeted, pagesOf, ascended, savedOf, entriesOf, bytesOf}
 use Rattle.sheet_claims.proofs.Bytes.{below-take, below-drop}
 use Rattle.sheet_claims.proofs.LentPages.{lentPage, lent-entries, lent-every, lent-ascending}
 use Rattle.sheet_claims.proofs.Ordered.{Every, every-ascended, length-ascended, any-every, every-any, ascending-apart, ascending-same}
-use Rattle.sheet_claims.proofs.ValidLists.{neither, Passes, passes, valid}
+use Rattle.sheet.proofs.TestedLaws.{ValidList, valid-list, list-valid}
 
 -- ---- lengths
-
-lent-right : (n lent : ℕ) → wrongLength n lent ≡ false → lent ≡ pageBytes * n
-unfolding wrongLength
-lent-right n lent e = eqb-true lent (pageBytes * n) (not-false _ (neither (ltb pageLimit n) (not (eqb lent (pageBytes * n))) e .1))
 
 length-entries : (ps : List Page) → length (entriesOf ps) ≡ length ps
 unfolding entriesOf
@@ -40,11 +34,11 @@ every-whole [] all = tt
 every-whole (p ∷ ps) all = (all .0, every-whole ps (all .1))
 
 module _ (entries bytes : List ℕ) (is-valid : listing entries (length bytes) ≡ Valid) where
-  tests : Passes entries (length bytes)
-  tests = passes entries (length bytes) is-valid
+  tests : ValidList entries (length bytes)
+  tests = valid-list entries (length bytes) is-valid
 
   lent-is : length bytes ≡ pageBytes * length entries
-  lent-is = lent-right (length entries) (length bytes) (tests .long)
+  lent-is = tests .whole
 
   page-long : (i : ℕ) → i < length entries → length (lentPage entries bytes i .bytes) ≡ pageBytes
   page-long i h = let long = lent-is in length-take-le pageBytes (drop (pageBytes * i) bytes) (rw length-drop (omega arith))
@@ -68,9 +62,10 @@ module _ (entries bytes : List ℕ) (is-valid : listing entries (length bytes) �
 
   pub ascended-valid : listing (entriesOf ps) (length (bytesOf ps)) ≡ Valid
   ascended-valid =
-      valid (entriesOf ps) (length (bytesOf ps))
+      list-valid (entriesOf ps) (length (bytesOf ps))
       (record {
-        long = rw (length-entries ps, length-ps, lent-ps) (tests .long);
+        few = rw (length-entries ps, length-ps) (tests .few);
+        whole = rw (length-entries ps, length-ps, lent-ps) (tests .whole);
         kinds = no-such-entry badKind (tests .kinds);
         addresses = no-such-entry badAddress (tests .addresses);
         apart = ascending-apart 0 ps (lent-ascending entries bytes is-valid);

@@ -1,4 +1,7 @@
 // Writing a run as a sheet into a lent buffer.
-mod write;
+mod lay;
+mod order;
+mod values;
+pub mod write;
 
 pub use write::Writing;

@@ -1,0 +1,33 @@
+-- The answers of writing, from what the code found. Assumes nothing.
+use Prim.Native.Nat.{ℕ, _<_, _≤_}
+use mathlib.Core.Path.{_≡_, sym}
+use mathlib.Core.Bool.{Bool}
+use mathlib.Core.List.{List}
+use lib.ListN.{length}
+use borrow.Author.Tests.{le-leb, lt-leb}
+use Rattle.processor.specs.declared.answer.Refusal.{Refusal}
+use Rattle.replay.specs.Run.{check}
+use Rattle.replay.specs.declared.steps.Tested.the-variants.{Passed, Failed}
+use Rattle.sheet.specs.Buffers.{laid}
+use Rattle.sheet.specs.Sheets.{text, savedOf}
+use Rattle.sheet_write.specs.Writes.{Written, goodState, printed, writes}
+use Rattle.sheet_write.specs.declared.write.Writing.the-variants.{Done, Refused, TooLong}
+
+module _ (whole out : List ℕ) (long : ℕ) (long-is : long ≡ length whole) where
+  pub too-long : length out < long → _≡_ {A = Written} (record { answer = TooLong long; text = out }) (printed whole out)
+  unfolding printed
+  too-long h = rw (long-is, lt-leb (length whole) (length out) (rw (← long-is) h))
+
+  pub done : (after : List ℕ) → long ≤ length out → after ≡ laid out 0 whole → _≡_ {A = Written} (record { answer = Done long; text = after }) (printed whole out)
+  unfolding printed
+  done after h after-is = rw (after-is, long-is, le-leb (length whole) (length out) (rw (← long-is) h))
+
+module _ (state pages bytes words out : List ℕ) where
+  pub refused : (refusal : Refusal) → check pages (length bytes) (goodState state) (length words) ≡ Failed refusal
+      → _≡_ {A = Written} (record { answer = Refused refusal; text = out }) (writes state pages bytes words out)
+  unfolding writes
+  refused refusal e = rw e
+
+  pub passed : check pages (length bytes) (goodState state) (length words) ≡ Passed → printed (text (savedOf state pages bytes words)) out ≡ writes state pages bytes words out
+  unfolding writes
+  passed e = rw e
