@@ -1,15 +1,15 @@
 -- The run of a sheet by its shape: how long each part is, how it is tested, what lies in the buffers after it. Assumes nothing.
 use Prim.Native.Nat.{ℕ, _+_, _*_, _<_, _≤_}
 use mathlib.Core.Path.{_≡_, refl, sym, ap, _∙_}
-use mathlib.Core.Bool.{Bool, true, false, _&&_}
+use mathlib.Core.Bool.{true, false, _&&_}
 use mathlib.Core.List.{List, [], _++_, append-nil}
 use native.Mathlib.Nat.{zero-add}
 use native.Mathlib.Omega.{arith}
-use lib.Dec.{leb, ltb}
+use lib.Dec.{leb}
+use borrow.Author.Tests.{leb-true}
 use lib.ListN.{length, take, drop, drop-of-length-le}
 use lib.Seq.{take-at}
-use borrow.Author.Tests.{lt-ltb, ltb-true, ltb-false}
-use Rattle.memory.specs.Pages.{pageBytes, pageLimit, wrongLength, listing}
+use Rattle.memory.specs.Pages.{pageBytes, pageLimit}
 use Rattle.processor.specs.State.{inRange}
 use Rattle.processor.specs.declared.answer.Refusal.the-variants.{Length}
 use Rattle.replay.specs.Layout.{stateOf}
@@ -20,8 +20,12 @@ use Rattle.sheet.specs.Sheets.{entriesOf, bytesOf}
 use Rattle.sheet.specs.Reading.{numbers, pagesIn}
 use Rattle.sheet.specs.Buffers.{laid}
 use Rattle.sheet.specs.declared.line.Line.the-variants.{State, Page, Do}
-use Rattle.sheet_read.specs.Reads.{Buffers, tested, sizesOf, fits, filled}
-use Rattle.sheet_read.specs.Scan.{Lead, stateAt, bodyAt, wordsAt, stepsAt, entriesIn, savedAt, Shaped}
+use Rattle.sheet.proofs.DigitLaws.{both}
+use Rattle.sheet.proofs.TestedLaws.{passes, too-many}
+use Rattle.sheet_read.specs.Reads.{Buffers, untouched, tested, sizesOf, fits, filled, byTest}
+use Rattle.sheet_read.specs.Scan.{Lead, stateAt, bodyAt, wordsAt, stepsAt, entriesIn, savedAt, sizesAt, roomFor, Shaped}
+use Rattle.sheet_read.specs.declared.read.Sizes.{Sizes}
+use Rattle.sheet_read.specs.declared.read.Reading.the-variants.{Done, TooLong}
 use Rattle.sheet_read.specs.declared.scan.Shape.{Shape}
 use Rattle.sheet_read.proofs.Leads.{numbers-length}
 use Rattle.sheet_read.proofs.Pages.{entries-length, entries-kept, bytes-length}
@@ -36,18 +40,14 @@ pub laid-whole : (out piece : List ℕ) → length piece ≡ length out → laid
 unfolding laid
 laid-whole out piece long = rw (drop-of-length-le out {i = 0 + length piece} (omega arith)) (append-nil piece)
 
--- ---- the tests before a run: a page list that is too long is refused for that, whatever else it is
-
-pub too-many : (pages : List ℕ) (lent : ℕ) (good : Bool) (words : ℕ) → pageLimit < length pages → check pages lent good words ≡ Failed Length
-unfolding check listing wrongLength
-too-many pages lent good words many = rw (lt-ltb pageLimit (length pages) many)
-
-pub few : (pages : List ℕ) (lent : ℕ) (good : Bool) (words : ℕ) → check pages lent good words ≡ Passed → length pages ≤ pageLimit
-few pages lent good words passed = go (ltb pageLimit (length pages)) refl
-  where
-    go : (b : Bool) → ltb pageLimit (length pages) ≡ b → length pages ≤ pageLimit
-    go true e = let failed = too-many pages lent good words (ltb-true pageLimit (length pages) e) in let z : _≡_ {A = ℕ} 0 1 = cc in absurd (omega arith)
-    go false e = ltb-false pageLimit (length pages) e
+-- every part fits its buffer
+pub room-parts : (sizes : Sizes) (state pages bytes words : ℕ) → roomFor sizes state pages bytes words ≡ true → (10 ≤ state) × (sizes .pages ≤ pages) × (sizes .bytes ≤ bytes) × (sizes .words ≤ words)
+unfolding roomFor
+room-parts sizes state pages bytes words h =
+    let first = both (leb 10 state) _ h in
+    let second = both (leb (sizes .pages) pages) _ (first .1) in
+    let third = both (leb (sizes .bytes) bytes) _ (second .1) in
+    (leb-true _ _ (first .0), leb-true _ _ (second .0), leb-true _ _ (third .0), leb-true _ _ (third .1))
 
 -- ---- the parts
 
@@ -79,16 +79,24 @@ module _ (t : List ℕ) (shape : Shape) (s : Shaped t shape) where
   too-many-pages many = tested-is ∙ too-many _ _ _ _ (rw pages-long many)
 
   pub few-pages : tested (savedAt t shape) ≡ Passed → shape .pages ≤ pageLimit
-  few-pages passed = rw pages-long at (few _ _ _ _ (sym tested-is ∙ passed))
+  few-pages passed = rw pages-long at (passes _ _ _ _ (sym tested-is ∙ passed) .list .few)
 
-  pub sizes-are : sizesOf (savedAt t shape) ≡ record { pages = shape .pages; bytes = pageBytes * shape .pages; words = 4 * shape .steps }
+  sizes-are : sizesOf (savedAt t shape) ≡ sizesAt shape
   unfolding sizesOf
   sizes-are = rw (entries-are, pages-long, bytes-long, words-long)
 
   module _ (lent : Buffers) where
-    pub fits-are : fits (savedAt t shape) lent ≡ (leb 10 (length (lent .state)) && (leb (shape .pages) (length (lent .pages)) && (leb (pageBytes * shape .pages) (length (lent .bytes)) && leb (4 * shape .steps) (length (lent .words)))))
-    unfolding fits
+    fits-are : fits (savedAt t shape) lent ≡ roomFor (sizesAt shape) (length (lent .state)) (length (lent .pages)) (length (lent .bytes)) (length (lent .words))
+    unfolding fits roomFor
     fits-are = rw (fields-long, entries-are, pages-long, bytes-long, words-long)
+
+    pub too-long : roomFor (sizesAt shape) (length (lent .state)) (length (lent .pages)) (length (lent .bytes)) (length (lent .words)) ≡ false
+        → byTest Passed (savedAt t shape) lent ≡ untouched (TooLong (sizesAt shape)) lent
+    too-long none = rw (fits-are, none, sizes-are)
+
+    pub loaded : roomFor (sizesAt shape) (length (lent .state)) (length (lent .pages)) (length (lent .bytes)) (length (lent .words)) ≡ true
+        → (after : Buffers) → after ≡ filled (savedAt t shape) lent → byTest Passed (savedAt t shape) lent ≡ record { answer = Done (sizesAt shape); buffers = after }
+    loaded room after after-is = rw (fits-are, room, sizes-are, after-is)
 
     pub filled-is : filled (savedAt t shape) lent
         ≡ record {

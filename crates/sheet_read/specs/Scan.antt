@@ -2,16 +2,17 @@
 -- cites none of it. Assumes nothing.
 use Prim.Native.Nat.{ℕ, zero, suc, _+_, _*_}
 use mathlib.Core.Path.{_≡_}
-use mathlib.Core.Bool.{true, cond}
+use mathlib.Core.Bool.{Bool, true, cond, _&&_}
 use mathlib.Core.List.{List, [], _∷_}
 use lib.ListN.{length, take, drop}
-use lib.Dec.{eqb}
-use Rattle.memory.specs.Pages.{pageOf}
+use lib.Dec.{eqb, leb}
+use Rattle.memory.specs.Pages.{pageBytes, pageOf}
 use Rattle.sheet.specs.Lines.{lines, isLine, values}
 use Rattle.sheet.specs.Sheets.{Saved, slots}
 use Rattle.sheet.specs.Reading.{next, isHead, numbers, slotValue, pastSlot, pastSlots, pagesIn, sheet, noSheet, parsed}
 use Rattle.sheet.specs.declared.line.Line.{Line}
 use Rattle.sheet.specs.declared.line.Line.the-variants.{State as StateLine, Page as PageLine, Do}
+use Rattle.sheet_read.specs.declared.read.Sizes.{Sizes}
 use Rattle.sheet_read.specs.declared.scan.Shape.{Shape}
 use Rattle.sheet_read.specs.declared.scan.Scan.{Scan}
 use Rattle.sheet_read.specs.declared.scan.Scan.the-variants.{Sheet, NoSheet}
@@ -66,6 +67,14 @@ savedAt t shape =
       pages = pagesIn (entriesIn (shape .pages) (drop bodyAt t)) (lines (drop (wordsAt (shape .pages)) t));
       words = numbers Do (take (shape .steps) (lines (drop (stepsAt (shape .pages) (shape .words)) t)));
     }
+
+-- how much it takes
+abbrev pub sizesAt : Shape → Sizes
+sizesAt shape = record { pages = shape .pages; bytes = pageBytes * shape .pages; words = 4 * shape .steps }
+
+-- ten fields and a run of these sizes fit buffers of these lengths
+unfoldable pub roomFor : Sizes → ℕ → ℕ → ℕ → ℕ → Bool
+roomFor sizes state pages bytes words = leb 10 state && (leb (sizes .pages) pages && (leb (sizes .bytes) bytes && leb (sizes .words) words))
 
 -- ---- what a scan finds
 

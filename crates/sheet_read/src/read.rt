@@ -1,9 +1,7 @@
 // A sheet into lent buffers: the whole text is judged before anything is written.
 ghost use mathlib.Core.Path.{_≡_};
-ghost use mathlib.Core.Bool.{_&&_};
-ghost use Prim.Native.Nat.{_+_, _*_, _≤_};
+ghost use Prim.Native.Nat.{_*_, _≤_};
 ghost use lib.ListN.{length, take, drop};
-ghost use lib.Dec.{leb};
 ghost use Rattle.memory.specs.Pages.{pageBytes, pageLimit};
 ghost use Rattle.processor.specs.State.{inRange};
 ghost use Rattle.replay.specs.Layout.{stateOf};
@@ -11,7 +9,7 @@ ghost use Rattle.replay.specs.declared.steps.Tested.the-variants.{Passed};
 ghost use Rattle.sheet.specs.Lines.{lines};
 ghost use Rattle.sheet.specs.Reading.{numbers};
 ghost use Rattle.sheet.specs.declared.line.Line.the-variants.{State as StateLine};
-ghost use Rattle.sheet_read.specs.Scan.{Lead, stateAt, savedAt, Shaped};
+ghost use Rattle.sheet_read.specs.Scan.{Lead, stateAt, savedAt, roomFor, Shaped};
 ghost use Rattle.sheet_read.specs.Reads.{tested, filled, byTest, reads};
 use crate::fill::fill_lines;
 use crate::fill::fill_pages;
@@ -77,7 +75,7 @@ fn judge(text: &[u8], shape: Shape) -> Tested
 
 // Whether every part fits its buffer, of these lengths.
 fn fits(sizes: Sizes, state: usize, pages: usize, bytes: usize, words: usize) -> bool
-    ensures { λ r. ⌜ r ≡ (leb 10 state && (leb (sizes .pages) pages && (leb (sizes .bytes) bytes && leb (sizes .words) words))) ⌝ }
+    ensures { λ r. ⌜ r ≡ roomFor sizes state pages bytes words ⌝ }
 {
     if state < FIELDS {
         return false;
