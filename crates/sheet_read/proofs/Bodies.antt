@@ -104,8 +104,8 @@ pub pages-stand : (n : ℕ) (ls : List (List ℕ)) → n ≡ pageCount 0 ls → 
 pages-stand n ls pages-are = rw pages-are (lead-pages 0 ls)
 
 module _ (t : List ℕ) (head : Headed t) (n w : ℕ)
-  (pages-are : n ≡ pageCount 0 (lines (drop bodyAt t)))
-  (words-are : w ≡ wordCount (entriesIn n (drop bodyAt t)) (lines (drop (wordsAt n) t))) where
+    (pages-are : n ≡ pageCount 0 (lines (drop bodyAt t)))
+    (words-are : w ≡ wordCount (entriesIn n (drop bodyAt t)) (lines (drop (wordsAt n) t))) where
   stand : Lead Page n (lines (drop bodyAt t))
   stand = pages-stand n (lines (drop bodyAt t)) pages-are
 

@@ -55,7 +55,7 @@ module _ (t : List ℕ) (at entry n : ℕ) (count-is : n ≡ slotCount (pageOf e
 
 -- the same where the entry stands on a page line, the first of those that are left
 module _ (t : List ℕ) (left page here entry n : ℕ) (more : 0 < left) (stand : Lead Page left (lines (drop page t)))
-  (entry-is : entry ≡ valueOf (take digits (drop (page + 6) t))) (count-is : n ≡ slotCount (pageOf entry) slots (lines (drop here t))) where
+    (entry-is : entry ≡ valueOf (take digits (drop (page + 6) t))) (count-is : n ≡ slotCount (pageOf entry) slots (lines (drop here t))) where
   entries-are : entriesIn left (drop page t) ≡ entry ∷ entriesIn (left - 1) (drop (page + 23) t)
   entries-are = rw entry-is (entries-turn left t page more stand)
 

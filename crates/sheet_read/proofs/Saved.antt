@@ -11,21 +11,22 @@ use lib.ListN.{length, take, drop, drop-of-length-le}
 use lib.Seq.{take-at}
 use Rattle.memory.specs.Pages.{pageBytes, pageLimit}
 use Rattle.processor.specs.State.{inRange}
+use Rattle.processor.specs.declared.answer.Refusal.{Refusal}
 use Rattle.processor.specs.declared.answer.Refusal.the-variants.{Length}
 use Rattle.replay.specs.Layout.{stateOf}
 use Rattle.replay.specs.Run.{check}
 use Rattle.replay.specs.declared.steps.Tested.the-variants.{Passed, Failed}
 use Rattle.sheet.specs.Lines.{lines}
 use Rattle.sheet.specs.Sheets.{entriesOf, bytesOf}
-use Rattle.sheet.specs.Reading.{numbers, pagesIn}
+use Rattle.sheet.specs.Reading.{noSheet, numbers, pagesIn, parsed}
 use Rattle.sheet.specs.Buffers.{laid}
 use Rattle.sheet.specs.declared.line.Line.the-variants.{State, Page, Do}
 use Rattle.sheet.proofs.DigitLaws.{both}
 use Rattle.sheet.proofs.TestedLaws.{passes, too-many}
-use Rattle.sheet_read.specs.Reads.{Buffers, untouched, tested, sizesOf, fits, filled, byTest}
+use Rattle.sheet_read.specs.Reads.{Buffers, untouched, tested, sizesOf, fits, filled, byTest, reads}
 use Rattle.sheet_read.specs.Scan.{Lead, stateAt, bodyAt, wordsAt, stepsAt, entriesIn, savedAt, sizesAt, roomFor, Shaped}
 use Rattle.sheet_read.specs.declared.read.Sizes.{Sizes}
-use Rattle.sheet_read.specs.declared.read.Reading.the-variants.{Done, TooLong}
+use Rattle.sheet_read.specs.declared.read.Reading.the-variants.{Done, NoSheet, Refused, TooLong}
 use Rattle.sheet_read.specs.declared.scan.Shape.{Shape}
 use Rattle.sheet_read.proofs.Leads.{numbers-length}
 use Rattle.sheet_read.proofs.Pages.{entries-length, entries-kept, bytes-length}
@@ -107,3 +108,17 @@ module _ (t : List ℕ) (shape : Shape) (s : Shaped t shape) where
         }
     unfolding filled savedAt entriesIn
     filled-is = rw entries-are
+
+    -- ---- the whole answer, by the test of the run
+
+    pub refused : (refusal : Refusal) → tested (savedAt t shape) ≡ Failed refusal → reads t lent ≡ untouched (Refused refusal) lent
+    unfolding reads
+    refused refusal test = rw (s .saved, test)
+
+    pub passed : tested (savedAt t shape) ≡ Passed → reads t lent ≡ byTest Passed (savedAt t shape) lent
+    unfolding reads
+    passed test = rw (s .saved, test)
+
+pub no-sheet : (t : List ℕ) (line : ℕ) (lent : Buffers) → parsed t ≡ noSheet line → reads t lent ≡ untouched (NoSheet line) lent
+unfolding reads
+no-sheet t line lent none = rw none

@@ -18,11 +18,14 @@ const VERSION: u64 = 1;
 
 // Where the state stands, behind the line of the version; and the lines after both.
 pub const STATE: usize = 24;
+
 pub const BODY: usize = 210;
 
 // How long a page line, a word line and a do line are.
 pub const PAGE_LINE: usize = 23;
+
 pub const WORD_LINE: usize = 41;
+
 pub const DO_LINE: usize = 75;
 
 // How many values of 8 bytes a page has.

@@ -11,11 +11,6 @@ use Rattle.sheet.specs.Buffers.{laid}
 use Rattle.sheet_read.proofs.Fills.{digits-in, field-turn, field-end}
 use Rattle.sheet_read.proofs.fill.fill_line.Statement.{statement}
 use Rattle.sheet_read.proofs.fill.fill_line.Tie as tie
-use Rattle.sheet_read.proofs.fill.fill_line.Reads as reads
-use Rattle.sheet_read.proofs.fill.fill_line.Lts as lts
-use Rattle.sheet.proofs.number.Reads as number-reads
-use Rattle.sheet.proofs.line.Line.count.Reads as count-reads
-use Rattle.sheet.proofs.line.Line.first.Reads as first-reads
 
 abbrev Inv-loop : tie.InvT-loop
 Inv-loop line text at out₀ to i₀ out i = (laid out₀ to (values line (take (width line) (drop at text))) ≡ laid out (to + i) (drop i (values line (take (width line) (drop at text))))) × (length out ≡ length out₀)

@@ -15,11 +15,6 @@ use Rattle.sheet_read.proofs.Places.{line-past}
 use Rattle.sheet_read.proofs.Fills.{line-fits, rest-fits, line-turn, line-end}
 use Rattle.sheet_read.proofs.fill.fill_lines.Statement.{statement}
 use Rattle.sheet_read.proofs.fill.fill_lines.Tie as tie
-use Rattle.sheet_read.proofs.fill.fill_lines.Reads as reads
-use Rattle.sheet_read.proofs.fill.fill_lines.Lts as lts
-use Rattle.sheet.proofs.line.Line.count.Reads as count-reads
-use Rattle.sheet.proofs.line.Line.width.Reads as width-reads
-use Rattle.sheet_read.proofs.fill.fill_line.Reads as fill-line-reads
 
 abbrev Inv-loop : tie.InvT-loop
 Inv-loop line text at n out₀ here₀ to₀ left₀ out here to left = (laid out₀ 0 (numbers line (take n (lines (drop at text)))) ≡ laid out to (numbers line (take left (lines (drop here text))))) × Lead line left (lines (drop here text)) × (to + fieldCount line * left ≤ length out) × (length out ≡ length out₀)
@@ -68,13 +63,12 @@ more : (c : tie.After-count Inv-loop μ-loop) → 0 < loopAt c .loop .left
 more c = c .before .before .before .before .before .before .loop-test .taken
 
 loop-again : tie.Need-loop-again Inv-loop μ-loop
-loop-again c =
-    (
-      rw (c .count .ensures, c .before .width .ensures, c .before .before .before .before .fill-line .ensures) (loopAt c .loop .inv .0 ∙ line-turn (start (loopAt c) .args .line) (start (loopAt c) .args .text .now) (loopAt c .loop .here) (loopAt c .loop .left) (more c) (loopAt c .loop .inv .1) (loopAt c .loop .out) (loopAt c .loop .to) (loopAt c .loop .inv .2)),
-      rw (c .before .width .ensures) (lead-next (start (loopAt c) .args .line) (loopAt c .loop .left) (start (loopAt c) .args .text .now) (loopAt c .loop .here) (loopAt c .loop .inv .1) (more c)),
-      rw (c .count .ensures, c .before .before .before .out .given) (rest-fits (start (loopAt c) .args .line) (start (loopAt c) .args .text .now) (loopAt c .loop .here) (loopAt c .loop .left) (more c) (loopAt c .loop .inv .1) (loopAt c .loop .out) (loopAt c .loop .to) (loopAt c .loop .inv .2)),
-      c .before .before .before .out .given ∙ loopAt c .loop .inv .3,
-    )
+loop-again c = (
+  rw (c .count .ensures, c .before .width .ensures, c .before .before .before .before .fill-line .ensures) (loopAt c .loop .inv .0 ∙ line-turn (start (loopAt c) .args .line) (start (loopAt c) .args .text .now) (loopAt c .loop .here) (loopAt c .loop .left) (more c) (loopAt c .loop .inv .1) (loopAt c .loop .out) (loopAt c .loop .to) (loopAt c .loop .inv .2)),
+  rw (c .before .width .ensures) (lead-next (start (loopAt c) .args .line) (loopAt c .loop .left) (start (loopAt c) .args .text .now) (loopAt c .loop .here) (loopAt c .loop .inv .1) (more c)),
+  rw (c .count .ensures, c .before .before .before .out .given) (rest-fits (start (loopAt c) .args .line) (start (loopAt c) .args .text .now) (loopAt c .loop .here) (loopAt c .loop .left) (more c) (loopAt c .loop .inv .1) (loopAt c .loop .out) (loopAt c .loop .to) (loopAt c .loop .inv .2)),
+  c .before .before .before .out .given ∙ loopAt c .loop .inv .3,
+)
 
 same-length : tie.Need-same-length Inv-loop μ-loop
 same-length c = c .before .loop .inv .3

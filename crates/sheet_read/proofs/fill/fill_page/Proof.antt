@@ -16,11 +16,6 @@ use Rattle.sheet_read.proofs.Stages.{counted-turn, counted-end, count-s
 use Rattle.sheet_read.proofs.Fills.{slot-start, slot-turn, slot-finish}
 use Rattle.sheet_read.proofs.fill.fill_page.Statement.{statement}
 use Rattle.sheet_read.proofs.fill.fill_page.Tie as tie
-use Rattle.sheet_read.proofs.fill.fill_page.Reads as reads
-use Rattle.sheet_read.proofs.fill.fill_page.Lts as lts
-use Rattle.sheet_read.proofs.fill.put_value.Reads as put-value-reads
-use Rattle.sheet_read.proofs.scan.line_count.Reads as line-count-reads
-use Rattle.sheet_read.proofs.scan.slot_value.Reads as slot-value-reads
 
 abbrev Inv-loop : tie.InvT-loop
 Inv-loop text from entry bytes₀ at base n₀ here₀ slot₀ bytes n here slot = (slotCount base slots (lines (drop from text)) ≡ n + slotCount (base + 8 * slot) (slots - slot) (lines (drop here text))) × (laid bytes₀ at (slotBytes base slots (lines (drop from text))) ≡ laid bytes (at + 8 * slot) (slotBytes (base + 8 * slot) (slots - slot) (lines (drop here text)))) × (here ≤ length text) × (n ≤ slot) × (slot ≤ slots) × (length bytes ≡ length bytes₀)
@@ -95,15 +90,14 @@ loop-less : tie.Need-loop-less Inv-loop μ-loop
 loop-less c = omega arith
 
 loop-again : tie.Need-loop-again Inv-loop μ-loop
-loop-again c = 
-    (
-      counted-turn _ _ _ (loopAt c .loop .inv .0) (count-turn (text (loopAt c)) (loopAt c .loop .here) (base (loopAt c)) (loopAt c .loop .slot) _ _ (value-is c) (c .line-count .ensures) (c .before .before .before .before .before .before .loop-test .taken)),
-      rw (c .before .before .before .put-value .ensures) (loopAt c .loop .inv .1 ∙ slot-turn (text (loopAt c)) (loopAt c .loop .here) (base (loopAt c)) (loopAt c .loop .slot) _ _ (value-is c) (c .line-count .ensures) (c .before .before .before .before .before .before .loop-test .taken) (loopAt c .loop .bytes) (start (loopAt c) .args .at) (omega arith)),
-      past c,
-      omega (arith, few c),
-      omega arith,
-      c .before .before .bytes .given ∙ loopAt c .loop .inv .5,
-    )
+loop-again c = (
+  counted-turn _ _ _ (loopAt c .loop .inv .0) (count-turn (text (loopAt c)) (loopAt c .loop .here) (base (loopAt c)) (loopAt c .loop .slot) _ _ (value-is c) (c .line-count .ensures) (c .before .before .before .before .before .before .loop-test .taken)),
+  rw (c .before .before .before .put-value .ensures) (loopAt c .loop .inv .1 ∙ slot-turn (text (loopAt c)) (loopAt c .loop .here) (base (loopAt c)) (loopAt c .loop .slot) _ _ (value-is c) (c .line-count .ensures) (c .before .before .before .before .before .before .loop-test .taken) (loopAt c .loop .bytes) (start (loopAt c) .args .at) (omega arith)),
+  past c,
+  omega (arith, few c),
+  omega arith,
+  c .before .before .bytes .given ∙ loopAt c .loop .inv .5,
+)
 
 same-length : tie.Need-same-length Inv-loop μ-loop
 same-length c = c .before .loop .inv .5

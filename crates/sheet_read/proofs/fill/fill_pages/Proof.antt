@@ -17,10 +17,6 @@ use Rattle.sheet_read.proofs.Pages.{page-end}
 use Rattle.sheet_read.proofs.Fills.{page-laid, pages-end}
 use Rattle.sheet_read.proofs.fill.fill_pages.Statement.{statement}
 use Rattle.sheet_read.proofs.fill.fill_pages.Tie as tie
-use Rattle.sheet_read.proofs.fill.fill_pages.Reads as reads
-use Rattle.sheet_read.proofs.fill.fill_pages.Lts as lts
-use Rattle.sheet.proofs.number.Reads as number-reads
-use Rattle.sheet_read.proofs.fill.fill_page.Reads as fill-page-reads
 
 abbrev Inv-loop : tie.InvT-loop
 Inv-loop text pages bytes₀ here₀ page₀ to₀ left₀ bytes here page to left = (laid bytes₀ 0 (bytesOf (pagesIn (entriesIn pages (drop bodyAt text)) (lines (drop (wordsAt pages) text)))) ≡ laid bytes to (bytesOf (pagesIn (entriesIn left (drop page text)) (lines (drop here text))))) × Lead Page left (lines (drop page text)) × (here ≤ length text) × (page + 23 * left ≤ length text) × (to + pageBytes * left ≤ length bytes) × (length bytes ≡ length bytes₀)
@@ -81,15 +77,14 @@ loop-less : tie.Need-loop-less Inv-loop μ-loop
 loop-less c = omega arith
 
 loop-again : tie.Need-loop-again Inv-loop μ-loop
-loop-again c = 
-    (
-      rw (c .before .before .fill-page .ensures .1) (loopAt c .loop .inv .0 ∙ page-laid (text (loopAt c)) (loopAt c .loop .left) (loopAt c .loop .page) (loopAt c .loop .here) _ _ (more c) (loopAt c .loop .inv .1) (c .before .before .before .before .number .ensures) (c .before .before .fill-page .ensures .0) (loopAt c .loop .bytes) (loopAt c .loop .to) (omega arith)),
-      lead-next Page (loopAt c .loop .left) (text (loopAt c)) (loopAt c .loop .page) (loopAt c .loop .inv .1) (more c),
-      past c,
-      omega arith,
-      rw (c .before .bytes .given) (omega arith),
-      c .before .bytes .given ∙ loopAt c .loop .inv .5,
-    )
+loop-again c = (
+  rw (c .before .before .fill-page .ensures .1) (loopAt c .loop .inv .0 ∙ page-laid (text (loopAt c)) (loopAt c .loop .left) (loopAt c .loop .page) (loopAt c .loop .here) _ _ (more c) (loopAt c .loop .inv .1) (c .before .before .before .before .number .ensures) (c .before .before .fill-page .ensures .0) (loopAt c .loop .bytes) (loopAt c .loop .to) (omega arith)),
+  lead-next Page (loopAt c .loop .left) (text (loopAt c)) (loopAt c .loop .page) (loopAt c .loop .inv .1) (more c),
+  past c,
+  omega arith,
+  rw (c .before .bytes .given) (omega arith),
+  c .before .bytes .given ∙ loopAt c .loop .inv .5,
+)
 
 same-length : tie.Need-same-length Inv-loop μ-loop
 same-length c = c .before .loop .inv .5

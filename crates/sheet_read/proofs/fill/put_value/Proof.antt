@@ -9,8 +9,6 @@ use Rattle.sheet.specs.Buffers.{laid}
 use Rattle.sheet_read.proofs.Fills.{byte-turn, byte-end}
 use Rattle.sheet_read.proofs.fill.put_value.Statement.{statement}
 use Rattle.sheet_read.proofs.fill.put_value.Tie as tie
-use Rattle.sheet_read.proofs.fill.put_value.Reads as reads
-use Rattle.sheet_read.proofs.fill.put_value.Lts as lts
 
 abbrev Inv-loop : tie.InvT-loop
 Inv-loop value bytes₀ at v₀ i₀ bytes v i = (laid bytes₀ at (littleBytes 8 value) ≡ laid bytes (at + i) (littleBytes (8 - i) v)) × (length bytes ≡ length bytes₀)

@@ -4,10 +4,6 @@ use borrow.Author.Needs.{needs}
 use Rattle.sheet_read.proofs.Saved.{filled-is}
 use Rattle.sheet_read.proofs.read.fill_all.Statement.{statement}
 use Rattle.sheet_read.proofs.read.fill_all.Tie as tie
-use Rattle.sheet_read.proofs.read.fill_all.Reads as reads
-use Rattle.sheet_read.proofs.read.fill_all.Lts as lts
-use Rattle.sheet_read.proofs.fill.fill_lines.Reads as fill-lines-reads
-use Rattle.sheet_read.proofs.fill.fill_pages.Reads as fill-pages-reads
 
 fill-lines-requires : tie.Need-fill-lines-requires
 fill-lines-requires c κs = search needs

@@ -10,11 +10,6 @@ use Rattle.sheet_read.proofs.Leads.{numbers-length}
 use Rattle.sheet_read.proofs.Saved.{laid-whole}
 use Rattle.sheet_read.proofs.read.good_state.Statement.{statement}
 use Rattle.sheet_read.proofs.read.good_state.Tie as tie
-use Rattle.sheet_read.proofs.read.good_state.Reads as reads
-use Rattle.sheet_read.proofs.read.good_state.Lts as lts
-use Rattle.processor.proofs.state.State.in_range.Reads as in-range-reads
-use Rattle.replay.proofs.state_of.Reads as state-of-reads
-use Rattle.sheet_read.proofs.fill.fill_lines.Reads as fill-lines-reads
 
 slice-aggregate-fill-lines : tie.Need-slice-aggregate-fill-lines
 slice-aggregate-fill-lines c = search needs

@@ -11,11 +11,6 @@ use Rattle.sheet_read.specs.Scan.{bodyAt, entriesIn}
 use Rattle.sheet_read.proofs.Saved.{laid-front, pages-long, too-many-pages, tested-is}
 use Rattle.sheet_read.proofs.read.judge.Statement.{statement}
 use Rattle.sheet_read.proofs.read.judge.Tie as tie
-use Rattle.sheet_read.proofs.read.judge.Reads as reads
-use Rattle.sheet_read.proofs.read.judge.Lts as lts
-use Rattle.replay.proofs.check.Reads as check-reads
-use Rattle.sheet_read.proofs.fill.fill_lines.Reads as fill-lines-reads
-use Rattle.sheet_read.proofs.read.good_state.Reads as good-state-reads
 
 returns : tie.Need-returns
 returns c = sym (too-many-pages _ _ (c .before .before .pre) (c .if1 .taken))

@@ -9,10 +9,6 @@ use Rattle.sheet_read.specs.Scan.{sizesAt, roomFor}
 use Rattle.sheet_read.proofs.Saved.{room-parts, too-long, loaded}
 use Rattle.sheet_read.proofs.read.load.Statement.{statement}
 use Rattle.sheet_read.proofs.read.load.Tie as tie
-use Rattle.sheet_read.proofs.read.load.Reads as reads
-use Rattle.sheet_read.proofs.read.load.Lts as lts
-use Rattle.sheet_read.proofs.read.fill_all.Reads as fill-all-reads
-use Rattle.sheet_read.proofs.read.fits.Reads as fits-reads
 
 mul-fits : tie.Need-mul-fits
 mul-fits c = search needs

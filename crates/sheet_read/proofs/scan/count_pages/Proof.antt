@@ -14,10 +14,6 @@ use Rattle.sheet_read.proofs.Places.{line-past}
 use Rattle.sheet_read.proofs.Stages.{counted-turn, counted-end, page-turn, page-low, page-end}
 use Rattle.sheet_read.proofs.scan.count_pages.Statement.{statement}
 use Rattle.sheet_read.proofs.scan.count_pages.Tie as tie
-use Rattle.sheet_read.proofs.scan.count_pages.Reads as reads
-use Rattle.sheet_read.proofs.scan.count_pages.Lts as lts
-use Rattle.sheet.proofs.number.Reads as number-reads
-use Rattle.sheet.proofs.line.Line.stands.Reads as stands-reads
 
 abbrev Inv-loop : tie.InvT-loop
 Inv-loop text n₀ least₀ at₀ n least at = (pageCount 0 (lines (drop bodyAt text)) ≡ n + pageCount least (lines (drop at text))) × (at ≡ bodyAt + 23 * n)

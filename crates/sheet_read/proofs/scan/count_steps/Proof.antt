@@ -13,9 +13,6 @@ use Rattle.sheet_read.proofs.Places.{line-past}
 use Rattle.sheet_read.proofs.Stages.{counted-turn, counted-end, do-turn, do-end}
 use Rattle.sheet_read.proofs.scan.count_steps.Statement.{statement}
 use Rattle.sheet_read.proofs.scan.count_steps.Tie as tie
-use Rattle.sheet_read.proofs.scan.count_steps.Reads as reads
-use Rattle.sheet_read.proofs.scan.count_steps.Lts as lts
-use Rattle.sheet.proofs.line.Line.stands.Reads as stands-reads
 
 abbrev Inv-loop : tie.InvT-loop
 Inv-loop text at n₀ here₀ n here = (doCount (lines (drop at text)) ≡ n + doCount (lines (drop here text))) × (here ≡ at + 75 * n)

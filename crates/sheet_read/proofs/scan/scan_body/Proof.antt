@@ -8,11 +8,6 @@ use Rattle.sheet_read.specs.Scan.{stepsAt}
 use Rattle.sheet_read.proofs.Bodies.{body-in, pages-stand, steps-in, end-in, whole-sheet, left-over}
 use Rattle.sheet_read.proofs.scan.scan_body.Statement.{statement}
 use Rattle.sheet_read.proofs.scan.scan_body.Tie as tie
-use Rattle.sheet_read.proofs.scan.scan_body.Reads as reads
-use Rattle.sheet_read.proofs.scan.scan_body.Lts as lts
-use Rattle.sheet_read.proofs.scan.count_pages.Reads as count-pages-reads
-use Rattle.sheet_read.proofs.scan.count_steps.Reads as count-steps-reads
-use Rattle.sheet_read.proofs.scan.count_words.Reads as count-words-reads
 
 count-pages-requires : tie.Need-count-pages-requires
 count-pages-requires c κs = search needs

@@ -11,11 +11,6 @@ use Rattle.sheet.specs.declared.line.Line.the-variants.{Sheet}
 use Rattle.sheet_read.proofs.Bodies.{no-sheet, other-version, good-version, no-state, headed}
 use Rattle.sheet_read.proofs.scan.scan_sheet.Statement.{statement}
 use Rattle.sheet_read.proofs.scan.scan_sheet.Tie as tie
-use Rattle.sheet_read.proofs.scan.scan_sheet.Reads as reads
-use Rattle.sheet_read.proofs.scan.scan_sheet.Lts as lts
-use Rattle.sheet.proofs.number.Reads as number-reads
-use Rattle.sheet.proofs.line.Line.stands.Reads as stands-reads
-use Rattle.sheet_read.proofs.scan.scan_body.Reads as scan-body-reads
 
 stands-requires : tie.Need-stands-requires
 stands-requires c κs = search needs

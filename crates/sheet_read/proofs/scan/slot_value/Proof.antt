@@ -13,10 +13,6 @@ use borrow.Author.Needs.{needs}
 use borrow.Author.Tests.{not-true, not-false}
 use Rattle.sheet_read.proofs.scan.slot_value.Statement.{statement}
 use Rattle.sheet_read.proofs.scan.slot_value.Tie as tie
-use Rattle.sheet_read.proofs.scan.slot_value.Reads as reads
-use Rattle.sheet_read.proofs.scan.slot_value.Lts as lts
-use Rattle.sheet.proofs.number.Reads as number-reads
-use Rattle.sheet.proofs.line.Line.stands.Reads as stands-reads
 
 stands-requires : tie.Need-stands-requires
 stands-requires c κs = search needs

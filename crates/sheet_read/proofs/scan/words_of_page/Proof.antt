@@ -12,10 +12,6 @@ use Rattle.sheet_read.specs.Scan.{slotCount}
 use Rattle.sheet_read.proofs.Stages.{counted-turn, counted-end, count-start, slot-end, count-turn, count-none, few-lines}
 use Rattle.sheet_read.proofs.scan.words_of_page.Statement.{statement}
 use Rattle.sheet_read.proofs.scan.words_of_page.Tie as tie
-use Rattle.sheet_read.proofs.scan.words_of_page.Reads as reads
-use Rattle.sheet_read.proofs.scan.words_of_page.Lts as lts
-use Rattle.sheet_read.proofs.scan.line_count.Reads as line-count-reads
-use Rattle.sheet_read.proofs.scan.slot_value.Reads as slot-value-reads
 
 abbrev Inv-loop : tie.InvT-loop
 Inv-loop text at entry base n₀ here₀ slot₀ n here slot = (slotCount base slots (lines (drop at text)) ≡ n + slotCount (base + 8 * slot) (slots - slot) (lines (drop here text))) × (here ≤ length text) × (n ≤ slot) × (slot ≤ slots)
