@@ -1,22 +1,21 @@
 -- What a text is, from the lines counted in it: the head, the stages behind it, and what is left over. Assumes nothing.
 use Prim.Native.Nat.{ℕ, suc, _+_, _-_, _*_, _<_, _≤_}
-use mathlib.Core.Path.{_≡_, refl, sym, ap, _∙_}
-use mathlib.Core.Bool.{Bool, true, false}
+use mathlib.Core.Path.{_≡_, sym, ap, _∙_}
+use mathlib.Core.Bool.{true, false}
 use mathlib.Core.List.{List, [], _∷_, append-nil}
 use native.Mathlib.Omega.{arith}
 use lib.Dec.{eqb}
 use lib.ListN.{length, take, drop, length-drop, drop-of-length-le}
-use lib.Seq.{drop-drop}
 use borrow.Author.Tests.{eq-eqb, ne-eqb}
 use Rattle.sheet.specs.Digits.{digits, valueOf}
-use Rattle.sheet.specs.Lines.{lines, joined, begins, form, values, isLine}
+use Rattle.sheet.specs.Lines.{lines, joined, begins, form, values}
 use Rattle.sheet.specs.Sheets.{version}
-use Rattle.sheet.specs.Reading.{Stages, sheet, noSheet, next, value, numbers, isHead, pageCount, pagesIn, pastPages, doCount, stages, finished, parsedLines, parsed}
+use Rattle.sheet.specs.Reading.{noSheet, next, numbers, isHead, pageCount, pagesIn, doCount, stages, finished, parsedLines, parsed}
 use Rattle.sheet.specs.declared.line.Line.the-variants.{Sheet, State, Page, Word, Do}
 use Rattle.sheet.proofs.DigitLaws.{both}
 use Rattle.sheet.proofs.LineLaws.{next-line, lines-step, joined-lines}
 use Rattle.sheet_read.specs.Scan.{Lead, wordCount, stateAt, bodyAt, wordsAt, stepsAt, entriesIn, savedAt, Headed, Shaped}
-use Rattle.sheet_read.proofs.Leads.{led, lead-one, lead-none, lead-end, lead-past, lead-left, numbers-turn, numbers-none}
+use Rattle.sheet_read.proofs.Leads.{led, lead-one, lead-end, lead-past, lead-left, numbers-turn, numbers-none}
 use Rattle.sheet_read.proofs.Places.{line-past, lines-at, is-line, value-at}
 use Rattle.sheet_read.proofs.Stages.{lead-pages, lead-words, lead-steps, words-past}
 

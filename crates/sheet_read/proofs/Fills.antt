@@ -2,7 +2,7 @@
 use Prim.Native.Nat.{ℕ, suc, _+_, _-_, _*_, _/_, _%_, _<_, _≤_}
 use mathlib.Core.Path.{_≡_, refl, sym, ap, _∙_}
 use mathlib.Core.Bool.{true}
-use mathlib.Core.List.{List, [], _∷_, _++_}
+use mathlib.Core.List.{List, [], _∷_}
 use native.Mathlib.Nat.{add-zero, mul-suc}
 use native.Mathlib.Numerals.{add-one}
 use native.Mathlib.Omega.{arith}
@@ -12,14 +12,14 @@ use Rattle.memory.specs.Pages.{pageOf}
 use Rattle.sheet.specs.Digits.{digits, valueOf}
 use Rattle.sheet.specs.Lines.{lines, begins, form, name, fieldCount, width, values}
 use Rattle.sheet.specs.Sheets.{slots, bytesOf}
-use Rattle.sheet.specs.Reading.{value, numbers, littleBytes, slotValue, slotBytes, pagesIn}
+use Rattle.sheet.specs.Reading.{numbers, littleBytes, slotValue, slotBytes, pagesIn}
 use Rattle.sheet.specs.Buffers.{laid}
 use Rattle.sheet.specs.declared.line.Line.{Line}
 use Rattle.sheet.specs.declared.line.Line.the-variants.{Sheet, State, Page, Word, Do}
 use Rattle.sheet.proofs.BufferLaws.{laid-nil, laid-turn, set-laid}
 use Rattle.sheet.proofs.LineLaws.{values-count}
 use Rattle.sheet_read.specs.Scan.{Lead, lineCount, slotCount, entriesIn}
-use Rattle.sheet_read.proofs.Leads.{led, numbers-turn, numbers-none}
+use Rattle.sheet_read.proofs.Leads.{numbers-turn, numbers-none}
 use Rattle.sheet_read.proofs.Places.{line-past, value-at}
 use Rattle.sheet_read.proofs.Stages.{bytes-turn, bytes-none}
 use Rattle.sheet_read.proofs.Pages.{little-length, slots-length, pages-next, pages-none}

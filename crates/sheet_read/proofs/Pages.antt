@@ -9,7 +9,7 @@ use Rattle.memory.specs.Pages.{pageBytes, pageOf}
 use Rattle.sheet.specs.Digits.{digits, valueOf}
 use Rattle.sheet.specs.Lines.{lines, values, valuesIn}
 use Rattle.sheet.specs.Sheets.{slots, entriesOf, bytesOf}
-use Rattle.sheet.specs.Reading.{value, numbers, littleBytes, slotValue, pastSlot, slotBytes, pastSlots, pagesIn}
+use Rattle.sheet.specs.Reading.{value, littleBytes, pastSlot, slotBytes, pastSlots, pagesIn}
 use Rattle.sheet.specs.declared.line.Line.the-variants.{Page, Word}
 use Rattle.sheet_read.specs.Scan.{Lead, slotCount, wordCount, entriesIn}
 use Rattle.sheet_read.proofs.Leads.{led, lead-end, lead-past, numbers-turn, numbers-none, numbers-length}

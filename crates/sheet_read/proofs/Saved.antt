@@ -1,9 +1,8 @@
 -- The run of a sheet by its shape: how long each part is, how it is tested, what lies in the buffers after it. Assumes nothing.
 use Prim.Native.Nat.{ℕ, _+_, _*_, _<_, _≤_}
-use mathlib.Core.Path.{_≡_, refl, sym, ap, _∙_}
-use mathlib.Core.Bool.{true, false, _&&_}
-use mathlib.Core.List.{List, [], _++_, append-nil}
-use native.Mathlib.Nat.{zero-add}
+use mathlib.Core.Path.{_≡_, sym, ap, _∙_}
+use mathlib.Core.Bool.{true, false}
+use mathlib.Core.List.{List, append-nil}
 use native.Mathlib.Omega.{arith}
 use lib.Dec.{leb}
 use borrow.Author.Tests.{leb-true}
@@ -24,7 +23,7 @@ use Rattle.sheet.specs.declared.line.Line.the-variants.{State, Page, Do}
 use Rattle.sheet.proofs.DigitLaws.{both}
 use Rattle.sheet.proofs.TestedLaws.{passes, too-many}
 use Rattle.sheet_read.specs.Reads.{Buffers, untouched, tested, sizesOf, fits, filled, byTest, reads}
-use Rattle.sheet_read.specs.Scan.{Lead, stateAt, bodyAt, wordsAt, stepsAt, entriesIn, savedAt, sizesAt, roomFor, Shaped}
+use Rattle.sheet_read.specs.Scan.{stateAt, bodyAt, wordsAt, stepsAt, entriesIn, savedAt, sizesAt, roomFor, Shaped}
 use Rattle.sheet_read.specs.declared.read.Sizes.{Sizes}
 use Rattle.sheet_read.specs.declared.read.Reading.the-variants.{Done, NoSheet, Refused, TooLong}
 use Rattle.sheet_read.specs.declared.scan.Shape.{Shape}

@@ -1,8 +1,7 @@
 // Judging a text: how many lines of each kind it has, or the first line that no sheet has. Nothing is written.
 ghost use mathlib.Core.Path.{_≡_};
-ghost use mathlib.Core.Bool.{true, _&&_};
 ghost use Prim.Native.Nat.{_+_, _*_, _≤_};
-ghost use lib.ListN.{length, take, drop};
+ghost use lib.ListN.{length, drop};
 ghost use Rattle.memory.specs.Pages.{pageOf};
 ghost use Rattle.sheet.specs.Lines.{lines};
 ghost use Rattle.sheet.specs.Sheets.{slots};

@@ -1,12 +1,11 @@
 -- `fill_lines` meets its contract. The invariant: what is still to be laid, from here on, gives the whole. Assumes nothing.
-use Prim.Native.Nat.{ℕ, _+_, _-_, _*_, _≤_, _<_}
-use mathlib.Core.Path.{_≡_, refl, sym, ap, _∙_}
+use Prim.Native.Nat.{_+_, _*_, _≤_, _<_}
+use mathlib.Core.Path.{_≡_, refl, sym, _∙_}
 use mathlib.Core.Bool.{true}
-use mathlib.Core.List.{List}
 use native.Mathlib.Omega.{arith}
 use lib.ListN.{length, take, drop}
 use borrow.Author.Needs.{needs}
-use Rattle.sheet.specs.Lines.{lines, begins, form, fieldCount, width, values}
+use Rattle.sheet.specs.Lines.{lines, begins, form, fieldCount, width}
 use Rattle.sheet.specs.Reading.{numbers}
 use Rattle.sheet.specs.Buffers.{laid}
 use Rattle.sheet_read.specs.Scan.{Lead}
