@@ -4,6 +4,7 @@
 --     RoundTripsProof       reads-back, writes-back
 --     FirstBadLineProof     from-one, before, not-here
 --     EqualMeaningProof     equal-text
+--     LentBuffersProof      written-read, read-written, read-untouched, write-untouched
 --     Promised              promised: all of them
 --     SavedLaws             saved-sheeted, ascended-valid, saved-back: from the lent buffers to a sheet and back
 
@@ -12,6 +13,7 @@ pub mod FirstBadLineProof
 pub mod EqualMeaningProof
 pub mod Promised
 pub mod SavedLaws
+pub mod LentBuffersProof
 mod Bytes
 mod LineKinds
 mod WordsRead

@@ -3,6 +3,18 @@ use Rattle.sheet_claims.specs.Promises.{Promises}
 use Rattle.sheet_claims.proofs.RoundTripsProof.{reads-back, writes-back}
 use Rattle.sheet_claims.proofs.FirstBadLineProof.{from-one, before, not-here}
 use Rattle.sheet_claims.proofs.EqualMeaningProof.{equal-text}
+use Rattle.sheet_claims.proofs.LentBuffersProof.{written-read, read-written, read-untouched, write-untouched}
 
 pub promised : Promises
-promised = record { reads-back = reads-back; writes-back = writes-back; from-one = from-one; before = before; not-here = not-here; equal-text = equal-text }
+promised = record {
+  reads-back = reads-back;
+  writes-back = writes-back;
+  from-one = from-one;
+  before = before;
+  not-here = not-here;
+  equal-text = equal-text;
+  written-read = written-read;
+  read-written = read-written;
+  read-untouched = read-untouched;
+  write-untouched = write-untouched;
+}

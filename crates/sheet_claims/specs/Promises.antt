@@ -3,6 +3,7 @@
 use Rattle.sheet_claims.specs.RoundTrips.{ReadsBack, WritesBack}
 use Rattle.sheet_claims.specs.FirstBadLine.{FromOne, Before, NotHere}
 use Rattle.sheet_claims.specs.EqualMeaning.{EqualText}
+use Rattle.sheet_claims.specs.LentBuffers.{WrittenRead, ReadWritten, ReadUntouched, WriteUntouched}
 
 pub record Promises : Type 0 where
   pub reads-back : ReadsBack
@@ -11,3 +12,7 @@ pub record Promises : Type 0 where
   pub before : Before
   pub not-here : NotHere
   pub equal-text : EqualText
+  pub written-read : WrittenRead
+  pub read-written : ReadWritten
+  pub read-untouched : ReadUntouched
+  pub write-untouched : WriteUntouched

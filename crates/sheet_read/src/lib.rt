@@ -1,5 +1,7 @@
 // Reading a run sheet into lent buffers.
-mod read;
+mod fill;
+pub mod read;
+mod scan;
 
 pub use read::Reading;
 pub use read::Sizes;

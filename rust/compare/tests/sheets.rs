@@ -4,11 +4,10 @@
 use driftpocket_compare::sheets::rows::Row;
 use driftpocket_compare::sheets::{Parts, edits, refusals, rounds, rows, texts};
 
-/// What is compared with the second program.
-// the library's functions stand here
+/// What is compared with the second program: the library's functions.
 const UNDER_TEST: Parts = Parts {
-    read: driftpocket_reference::sheet::read_sheet,
-    write: driftpocket_reference::sheet::write_sheet,
+    read: driftpocket::sheet_read_raw,
+    write: driftpocket::sheet_write_raw,
 };
 
 /// What came of it, or the difference.

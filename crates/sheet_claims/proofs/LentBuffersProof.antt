@@ -1,0 +1,161 @@
+-- Reading and writing undo each other, of what the contracts give: from the round trips of sheets and the laws between buffers and sheets.
+-- Assumes nothing.
+use Prim.Native.Nat.{ℕ, _+_}
+use mathlib.Core.Path.{_≡_, refl, ap}
+use mathlib.Core.Bool.{Bool, true, false, cond, true≢false}
+use mathlib.Core.List.{List}
+use native.Mathlib.Omega.{arith}
+use lib.ListN.{length, take, drop}
+use lib.Seq.{take-at}
+use lib.Dec.{eqb, leb}
+use borrow.Author.Tests.{eqb-true, eq-eqb}
+use Rattle.processor.specs.State.{inRange}
+use Rattle.replay.specs.Layout.{stateOf}
+use Rattle.replay.specs.Run.{check}
+use Rattle.replay.specs.declared.steps.Tested.{Tested}
+use Rattle.replay.specs.declared.steps.Tested.the-variants.{Passed, Failed}
+use Rattle.sheet.specs.Buffers.{laid}
+use Rattle.sheet.specs.Sheets.{Saved, savedOf, entriesOf, bytesOf, text}
+use Rattle.sheet.specs.Reading.{Parsed, sheet, noSheet, parsed}
+use Rattle.sheet.proofs.DigitLaws.{both}
+use Rattle.sheet.proofs.TestedLaws.{Passes, passes, passed, valid-list, list-valid}
+use Rattle.sheet_read.specs.Reads.{Buffers, Read, byTest, byText, tested, fits, filled, sizesOf, reads}
+use Rattle.sheet_read.specs.declared.read.Sizes.{Sizes}
+use Rattle.sheet_read.specs.declared.read.Reading.the-variants.{Done as ReadDone, TooLong as ReadTooLong}
+use Rattle.sheet_write.specs.Writes.{Written, byTest as writtenByTest, goodState, printed, writes}
+use Rattle.sheet_write.specs.declared.write.Writing.the-variants.{Done as WriteDone, TooLong as WriteTooLong}
+use Rattle.sheet_claims.specs.LentBuffers.{WrittenRead, ReadWritten, ReadUntouched, WriteUntouched, readDone, writeDone}
+use Rattle.sheet_claims.proofs.RoundTripsProof.{reads-back, writes-back}
+use Rattle.sheet_claims.proofs.SavedLaws.{saved-sheeted, ascended-valid, saved-back}
+
+-- what was laid at the front of a buffer is its front
+front : (out piece : List ℕ) (n : ℕ) → length piece ≡ n → take n (laid out 0 piece) ≡ piece
+unfolding laid
+front out piece n e = take-at piece (drop (0 + length piece) out) n e
+
+-- ---- a write that is done, and one that is not
+
+-- a write that is done was tested, and laid the whole text
+record WriteWas (test : Tested) (whole out : List ℕ) (long : ℕ) : Type 0 where
+  good : test ≡ Passed
+  whole-long : length whole ≡ long
+  left : (writtenByTest test whole out) .text ≡ laid out 0 whole
+
+abbrev printedIf : Bool → List ℕ → List ℕ → Written
+printedIf fits whole out = cond fits (record { answer = WriteDone (length whole); text = laid out 0 whole }) (record { answer = WriteTooLong (length whole); text = out })
+
+printed-was : (fits : Bool) (whole out : List ℕ) (long : ℕ) → (printedIf fits whole out) .answer ≡ WriteDone long → (length whole ≡ long) × ((printedIf fits whole out) .text ≡ laid out 0 whole)
+printed-was true whole out long e = (cc, refl)
+printed-was false whole out long e = let z : _≡_ {A = ℕ} 0 1 = cc in absurd (omega arith)
+
+write-was : (test : Tested) (whole out : List ℕ) (long : ℕ) → (writtenByTest test whole out) .answer ≡ WriteDone long → WriteWas test whole out long
+unfolding printed
+write-was Passed whole out long e =
+    let was = printed-was (leb (length whole) (length out)) whole out long e in
+    record { good = refl; whole-long = was .0; left = was .1 }
+write-was (Failed refusal) whole out long e = let z : _≡_ {A = ℕ} 0 1 = cc in absurd (omega arith)
+
+printed-untouched : (fits : Bool) (whole out : List ℕ) → writeDone ((printedIf fits whole out) .answer) ≡ false → (printedIf fits whole out) .text ≡ out
+printed-untouched true whole out e = absurd (true≢false e)
+printed-untouched false whole out e = refl
+
+untouched-by : (test : Tested) (whole out : List ℕ) → writeDone ((writtenByTest test whole out) .answer) ≡ false → (writtenByTest test whole out) .text ≡ out
+unfolding printed
+untouched-by Passed whole out e = printed-untouched (leb (length whole) (length out)) whole out e
+untouched-by (Failed refusal) whole out e = refl
+
+pub write-untouched : WriteUntouched
+unfolding writes
+write-untouched state pages bytes words out e = untouched-by (check pages (length bytes) (goodState state) (length words)) (text (savedOf state pages bytes words)) out e
+
+-- ---- a read that is done, and one that is not
+
+-- a read that is done was of a sheet that was tested, and filled the buffers with its run
+record ReadWas (t : List ℕ) (lent : Buffers) (sizes : Sizes) : Type 0 where
+  saved : Saved
+  from : parsed t ≡ sheet saved
+  good : tested saved ≡ Passed
+  long : sizesOf saved ≡ sizes
+  left : (reads t lent) .buffers ≡ filled saved lent
+
+abbrev readIf : Bool → Saved → Buffers → Read
+readIf fit s lent = cond fit (record { answer = ReadDone (sizesOf s); buffers = filled s lent }) (record { answer = ReadTooLong (sizesOf s); buffers = lent })
+
+fit-was : (fit : Bool) (s : Saved) (lent : Buffers) (sizes : Sizes) → (readIf fit s lent) .answer ≡ ReadDone sizes → (sizesOf s ≡ sizes) × ((readIf fit s lent) .buffers ≡ filled s lent)
+fit-was true s lent sizes e = (cc, refl)
+fit-was false s lent sizes e = let z : _≡_ {A = ℕ} 0 1 = cc in absurd (omega arith)
+
+test-was : (test : Tested) (s : Saved) (lent : Buffers) (sizes : Sizes) → (byTest test s lent) .answer ≡ ReadDone sizes
+    → (test ≡ Passed) × (sizesOf s ≡ sizes) × ((byTest test s lent) .buffers ≡ filled s lent)
+test-was Passed s lent sizes e = let was = fit-was (fits s lent) s lent sizes e in (refl, was .0, was .1)
+test-was (Failed refusal) s lent sizes e = let z : _≡_ {A = ℕ} 0 1 = cc in absurd (omega arith)
+
+read-was : (t : List ℕ) (lent : Buffers) (sizes : Sizes) → (reads t lent) .answer ≡ ReadDone sizes → ReadWas t lent sizes
+unfolding reads
+read-was t lent sizes e = by (parsed t) refl e
+  where
+    by : (p : Parsed) → parsed t ≡ p → (byText p lent) .answer ≡ ReadDone sizes → ReadWas t lent sizes
+    by (sheet s) same done =
+        let was = test-was (tested s) s lent sizes done in
+        record { saved = s; from = same; good = was .0; long = was .1; left = rw same (was .2) }
+    by (noSheet line) same done = let z : _≡_ {A = ℕ} 0 1 = cc in absurd (omega arith)
+
+fit-untouched : (fit : Bool) (s : Saved) (lent : Buffers) → readDone ((readIf fit s lent) .answer) ≡ false → (readIf fit s lent) .buffers ≡ lent
+fit-untouched true s lent e = absurd (true≢false e)
+fit-untouched false s lent e = refl
+
+test-untouched : (test : Tested) (s : Saved) (lent : Buffers) → readDone ((byTest test s lent) .answer) ≡ false → (byTest test s lent) .buffers ≡ lent
+test-untouched Passed s lent e = fit-untouched (fits s lent) s lent e
+test-untouched (Failed refusal) s lent e = refl
+
+text-untouched : (p : Parsed) (lent : Buffers) → readDone ((byText p lent) .answer) ≡ false → (byText p lent) .buffers ≡ lent
+text-untouched (sheet s) lent e = test-untouched (tested s) s lent e
+text-untouched (noSheet line) lent e = refl
+
+pub read-untouched : ReadUntouched
+unfolding reads
+read-untouched t lent e = text-untouched (parsed t) lent e
+
+-- ---- what was written is read
+
+-- the run, its pages ascending, passes the tests again
+again : (state pages bytes words : List ℕ) → Passes pages (length bytes) (goodState state) (length words) → tested (savedOf state pages bytes words) ≡ Passed
+unfolding tested savedOf goodState
+again state pages bytes words h =
+    let s : Saved = savedOf state pages bytes words in
+    passed (entriesOf (s .pages)) (length (bytesOf (s .pages))) (inRange (stateOf state)) (length words)
+    (record {
+      list = valid-list (entriesOf (s .pages)) (length (bytesOf (s .pages))) (ascended-valid pages bytes (list-valid pages (length bytes) (h .list)));
+      state = both (eqb (length state) 10) (inRange (stateOf state)) (h .state) .1;
+      whole = h .whole;
+      few = h .few;
+    })
+
+pub written-read : WrittenRead
+unfolding writes reads goodState
+written-read state pages bytes words out lent long small-state small-pages small-bytes small-words e =
+    let s : Saved = savedOf state pages bytes words in
+    let was = write-was (check pages (length bytes) (goodState state) (length words)) (text s) out long e in
+    let has = passes pages (length bytes) (goodState state) (length words) (was .good) in
+    let ten : length state ≡ 10 = eqb-true (length state) 10 (both (eqb (length state) 10) (inRange (stateOf state)) (has .state) .0) in
+    let sheeted = saved-sheeted pages bytes (list-valid pages (length bytes) (has .list)) state words ten small-state small-pages small-bytes (has .whole) small-words in
+    rw (was .left, front out (text s) long (was .whole-long), reads-back s sheeted, again state pages bytes words has)
+
+-- ---- what was read is written
+
+-- the run of a sheet passes the tests of a write, as it did those of the read
+good-again : (s : Saved) → length (s .state) ≡ 10 → tested s ≡ Passed → check (entriesOf (s .pages)) (length (bytesOf (s .pages))) (goodState (s .state)) (length (s .words)) ≡ Passed
+unfolding tested goodState
+good-again s ten good = rw (eq-eqb (length (s .state)) 10 ten) good
+
+pub read-written : ReadWritten
+unfolding writes filled sizesOf
+read-written t out lent sizes e =
+    let was = read-was t lent sizes e in
+    let s : Saved = was .saved in
+    let back = writes-back t s (was .from) in
+    let state-is = front (lent .state) (s .state) 10 (back .0 .fields) in
+    let pages-are = front (lent .pages) (entriesOf (s .pages)) (sizes .pages) (ap (λ (z : Sizes). z .pages) (was .long)) in
+    let bytes-are = front (lent .bytes) (bytesOf (s .pages)) (sizes .bytes) (ap (λ (z : Sizes). z .bytes) (was .long)) in
+    let words-are = front (lent .words) (s .words) (sizes .words) (ap (λ (z : Sizes). z .words) (was .long)) in
+    rw (was .left, state-is, pages-are, bytes-are, words-are, good-again s (back .0 .fields) (was .good), saved-back s (back .0), back .1)

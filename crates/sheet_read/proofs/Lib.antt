@@ -1,0 +1,8 @@
+-- Laws of counted lines and of what is read from them, for the proofs of this crate's functions.
+mod Leads
+mod Places
+mod Stages
+mod Pages
+mod Bodies
+mod Fills
+mod Saved

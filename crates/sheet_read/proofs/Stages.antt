@@ -1,0 +1,242 @@
+-- The turns of the loops that count lines: what each count of the definitions is at a place of a text, in the terms of the code; and that
+-- the lines so counted are of their kind. Assumes nothing.
+use Prim.Native.Nat.{ℕ, zero, suc, _+_, _-_, _*_, _/_, _<_, _≤_}
+use mathlib.Core.Path.{_≡_, refl, sym, ap, _∙_}
+use mathlib.Core.Bool.{Bool, true, false, not, cond, _&&_, and-true}
+use mathlib.Core.List.{List, [], _∷_, _++_}
+use native.Mathlib.Nat.{add-zero, zero-add}
+use native.Mathlib.Numerals.{add-one, one-add}
+use native.Mathlib.Omega.{arith}
+use lib.ListN.{length, take, drop}
+use lib.Seq.{drop-drop}
+use lib.Dec.{eqb, leb}
+use borrow.Author.Tests.{not-true, eqb-true, eq-eqb, ne-eqb, le-leb, lt-leb}
+use Rattle.memory.specs.Pages.{pageBytes, pageOf}
+use Rattle.sheet.specs.Digits.{digits, valueOf}
+use Rattle.sheet.specs.Lines.{lines, begins, form, isLine}
+use Rattle.sheet.specs.Sheets.{frameOf, slots}
+use Rattle.sheet.specs.Reading.{next, value, pageCount, isWord, slotValue, pastSlot, slotBytes, pastSlots, pastPages, littleBytes, doCount}
+use Rattle.sheet.specs.declared.line.Line.{Line}
+use Rattle.sheet.specs.declared.line.Line.the-variants.{Page, Word, Do}
+use Rattle.sheet.proofs.DigitLaws.{both}
+use Rattle.sheet.proofs.LineLaws.{next-line}
+use Rattle.sheet_read.specs.Scan.{Lead, lineCount, slotCount, wordCount}
+use Rattle.sheet_read.proofs.Leads.{lead-one, lead-none, lead-more, lead-end, lead-past}
+use Rattle.sheet_read.proofs.Places.{lines-at, is-line, value-at}
+
+-- ---- a count so far and a count from here on
+
+pub counted-turn : (n k rest : ℕ) {whole more : ℕ} → whole ≡ n + more → more ≡ k + rest → whole ≡ n + k + rest
+counted-turn n k rest e f = omega arith
+
+pub counted-end : (n : ℕ) {whole more : ℕ} → whole ≡ n + more → more ≡ 0 → n ≡ whole
+counted-end n e f = omega arith
+
+-- one line more, where it is of the kind and a test is passed
+lead-if : (kind : Line) (l : List ℕ) (ls : List (List ℕ)) (n : ℕ) (is : Bool) → isLine kind l ≡ is → (passed : Bool) → Lead kind n ls → Lead kind (cond (is && passed) (suc n) 0) (l ∷ ls)
+unfolding Lead
+lead-if kind l ls n true e true rest = (e, rest)
+lead-if kind l ls n true e false rest = tt
+lead-if kind l ls n false e passed rest = tt
+
+-- ---- pages
+
+page-cons : (least : ℕ) (l : List ℕ) (ls : List (List ℕ)) → isLine Page l ≡ true
+    → pageCount least (l ∷ ls) ≡ cond (leb least (frameOf (value Page 0 l))) (suc (pageCount (suc (frameOf (value Page 0 l))) ls)) 0
+unfolding pageCount
+page-cons least l ls h = rw h
+
+page-other : (least : ℕ) (ls : List (List ℕ)) → isLine Page (next ls) ≡ false → pageCount least ls ≡ 0
+unfolding pageCount
+page-other least [] h = refl
+page-other least (l ∷ ls) h = rw h
+
+pub page-end : (t : List ℕ) (at least : ℕ) → begins (form Page) (drop at t) ≡ false → pageCount least (lines (drop at t)) ≡ 0
+page-end t at least other = page-other least (lines (drop at t)) (next-line Page (drop at t) ∙ other)
+
+module _ (t : List ℕ) (at least entry : ℕ) (begun : begins (form Page) (drop at t) ≡ true) (entry-is : entry ≡ valueOf (take digits (drop (at + 6) t))) where
+  page-here : pageCount least (lines (drop at t)) ≡ cond (leb least (frameOf entry)) (suc (pageCount (suc (frameOf entry)) (lines (drop (at + 23) t)))) 0
+  page-here =
+      rw (lines-at Page t at begun, page-cons least (take 23 (drop at t)) (lines (drop (at + 23) t)) (is-line Page t at begun), value-at Page t at begun 0 (omega arith), ← entry-is)
+
+  pub page-turn : least ≤ entry / pageBytes → pageCount least (lines (drop at t)) ≡ 1 + pageCount (entry / pageBytes + 1) (lines (drop (at + 23) t))
+  unfolding frameOf
+  page-turn above = rw (page-here, le-leb _ _ above, add-one, one-add)
+
+  pub page-low : entry / pageBytes < least → pageCount least (lines (drop at t)) ≡ 0
+  unfolding frameOf
+  page-low low = rw (page-here, lt-leb _ _ low)
+
+pub lead-pages : (least : ℕ) (ls : List (List ℕ)) → Lead Page (pageCount least ls) ls
+unfolding pageCount Lead
+lead-pages least [] = tt
+lead-pages least (l ∷ ls) = lead-if Page l ls (pageCount (suc (frameOf (value Page 0 l))) ls) (isLine Page l) refl (leb least (frameOf (value Page 0 l))) (lead-pages (suc (frameOf (value Page 0 l))) ls)
+
+-- ---- instructions
+
+do-cons : (l : List ℕ) (ls : List (List ℕ)) → isLine Do l ≡ true → doCount (l ∷ ls) ≡ suc (doCount ls)
+unfolding doCount
+do-cons l ls h = rw h
+
+do-other : (ls : List (List ℕ)) → isLine Do (next ls) ≡ false → doCount ls ≡ 0
+unfolding doCount
+do-other [] h = refl
+do-other (l ∷ ls) h = rw h
+
+module _ (t : List ℕ) (at : ℕ) where
+  pub do-turn : begins (form Do) (drop at t) ≡ true → doCount (lines (drop at t)) ≡ 1 + doCount (lines (drop (at + 75) t))
+  do-turn begun = rw (lines-at Do t at begun, one-add) (do-cons (take 75 (drop at t)) (lines (drop (at + 75) t)) (is-line Do t at begun))
+
+  pub do-end : begins (form Do) (drop at t) ≡ false → doCount (lines (drop at t)) ≡ 0
+  do-end other = do-other (lines (drop at t)) (next-line Do (drop at t) ∙ other)
+
+pub lead-steps : (ls : List (List ℕ)) → Lead Do (doCount ls) ls
+unfolding doCount Lead
+lead-steps [] = tt
+lead-steps (l ∷ ls) = rw and-true at (lead-if Do l ls (doCount ls) (isLine Do l) refl true (lead-steps ls))
+
+-- ---- words
+
+or-zero : (v : ℕ) → cond (not (eqb v 0)) v 0 ≡ v
+or-zero v = go (eqb v 0) refl
+  where
+    go : (b : Bool) → eqb v 0 ≡ b → cond (not b) v 0 ≡ v
+    go true e = sym (eqb-true v 0 e)
+    go false e = refl
+
+-- the next line, where it stands at a place
+is-word-at : (t : List ℕ) (at address : ℕ) → begins (form Word) (drop at t) ≡ true
+    → isWord address (next (lines (drop at t))) ≡ (eqb (valueOf (take digits (drop (at + 6) t))) address && not (eqb (valueOf (take digits (drop (at + 24) t))) 0))
+unfolding isWord
+is-word-at t at address begun = rw (lines-at Word t at begun, is-line Word t at begun, value-at Word t at begun 0 (omega arith), value-at Word t at begun 1 (omega arith))
+
+module _ (t : List ℕ) (at address : ℕ) where
+  pub slot-here : begins (form Word) (drop at t) ≡ true → valueOf (take digits (drop (at + 6) t)) ≡ address → slotValue address (lines (drop at t)) ≡ valueOf (take digits (drop (at + 24) t))
+  unfolding slotValue
+  slot-here begun same =
+      rw (is-word-at t at address begun, eq-eqb _ _ same, lines-at Word t at begun, value-at Word t at begun 1 (omega arith)) (or-zero (valueOf (take digits (drop (at + 24) t))))
+
+  pub slot-there : begins (form Word) (drop at t) ≡ true → (valueOf (take digits (drop (at + 6) t)) ≡ address → ⊥) → slotValue address (lines (drop at t)) ≡ 0
+  unfolding slotValue
+  slot-there begun other = rw (is-word-at t at address begun, ne-eqb _ _ other)
+
+  pub slot-none : begins (form Word) (drop at t) ≡ false → slotValue address (lines (drop at t)) ≡ 0
+  unfolding slotValue isWord
+  slot-none other = rw (next-line Word (drop at t), other)
+
+-- ---- the lines of the values
+
+module _ (address : ℕ) (l : List ℕ) (h : isWord address l ≡ true) where
+  word-line : isLine Word l ≡ true
+  unfolding isWord
+  word-line = both _ _ h .0
+
+  word-value : eqb (value Word 1 l) 0 ≡ false
+  unfolding isWord
+  word-value = not-true _ (both (eqb (value Word 0 l) address) _ (both (isLine Word l) _ h .1) .1)
+
+-- a value has its line, where it is not 0
+module _ (address : ℕ) (ls : List (List ℕ)) where
+  with-line : isWord address (next ls) ≡ true → lineCount (slotValue address ls) ≡ 1
+  unfolding slotValue
+  with-line h = rw (h, word-value address (next ls) h)
+
+  no-line : isWord address (next ls) ≡ false → lineCount (slotValue address ls) ≡ 0
+  unfolding slotValue
+  no-line h = rw h
+
+  slot-past : pastSlot address ls ≡ drop (lineCount (slotValue address ls)) ls
+  unfolding pastSlot
+  slot-past = go (isWord address (next ls)) refl
+    where
+      go : (b : Bool) → isWord address (next ls) ≡ b → cond b (drop 1 ls) ls ≡ drop (lineCount (slotValue address ls)) ls
+      go true h = rw (with-line h)
+      go false h = rw (no-line h)
+
+  lead-slot : Lead Word (lineCount (slotValue address ls)) ls
+  lead-slot = go (isWord address (next ls)) refl
+    where
+      go : (b : Bool) → isWord address (next ls) ≡ b → Lead Word (lineCount (slotValue address ls)) ls
+      go true h = rw (with-line h) (lead-one Word ls (word-line address (next ls) h))
+      go false h = rw (no-line h) (lead-none Word ls)
+
+-- n values take as many lines as are counted
+pub slots-past : (address n : ℕ) (ls : List (List ℕ)) → pastSlots address n ls ≡ drop (slotCount address n ls) ls
+unfolding pastSlots slotCount
+slots-past address zero ls = refl
+slots-past address (suc n) ls =
+    let more : ℕ = slotCount (address + 8) n (pastSlot address ls) in
+    slots-past (address + 8) n (pastSlot address ls) ∙ (ap (drop more) (slot-past address ls) ∙ drop-drop more (lineCount (slotValue address ls)) ls)
+
+pub lead-slots : (address n : ℕ) (ls : List (List ℕ)) → Lead Word (slotCount address n ls) ls
+unfolding slotCount
+lead-slots address zero ls = lead-none Word ls
+lead-slots address (suc n) ls =
+    lead-more Word (lineCount (slotValue address ls)) (slotCount (address + 8) n (pastSlot address ls)) ls (lead-slot address ls) (rw (← slot-past address ls) (lead-slots (address + 8) n (pastSlot address ls)))
+
+pub words-past : (entries : List ℕ) (ls : List (List ℕ)) → pastPages entries ls ≡ drop (wordCount entries ls) ls
+unfolding pastPages wordCount
+words-past [] ls = refl
+words-past (entry ∷ entries) ls =
+    let rest : List (List ℕ) = pastSlots (pageOf entry) slots ls in
+    words-past entries rest ∙ (ap (drop (wordCount entries rest)) (slots-past (pageOf entry) slots ls) ∙ drop-drop (wordCount entries rest) (slotCount (pageOf entry) slots ls) ls)
+
+pub lead-words : (entries : List ℕ) (ls : List (List ℕ)) → Lead Word (wordCount entries ls) ls
+unfolding wordCount
+lead-words [] ls = lead-none Word ls
+lead-words (entry ∷ entries) ls =
+    let rest : List (List ℕ) = pastSlots (pageOf entry) slots ls in
+    lead-more Word (slotCount (pageOf entry) slots ls) (wordCount entries rest) ls (lead-slots (pageOf entry) slots ls)
+    (rw (← slots-past (pageOf entry) slots ls) (lead-words entries rest))
+
+-- ---- turns over the values of a page
+
+one-less : (slot : ℕ) → slot < slots → slots - slot ≡ suc (slots - (slot + 1))
+one-less slot more = omega arith
+
+count-suc : (address n : ℕ) (ls : List (List ℕ)) → slotCount address (suc n) ls ≡ lineCount (slotValue address ls) + slotCount (address + 8) n (pastSlot address ls)
+unfolding slotCount
+count-suc address n ls = refl
+
+bytes-suc : (address n : ℕ) (ls : List (List ℕ)) → slotBytes address (suc n) ls ≡ littleBytes 8 (slotValue address ls) ++ slotBytes (address + 8) n (pastSlot address ls)
+unfolding slotBytes
+bytes-suc address n ls = refl
+
+module _ (t : List ℕ) (at base slot v k : ℕ) (value-is : v ≡ slotValue (base + 8 * slot) (lines (drop at t))) (count-is : k ≡ lineCount v) where
+  lines-are : k ≡ lineCount (slotValue (base + 8 * slot) (lines (drop at t)))
+  lines-are = count-is ∙ ap lineCount value-is
+
+  pub slot-end : at ≤ length t → at + 41 * k ≤ length t
+  slot-end inside = rw lines-are (lead-end Word _ t at (lead-slot (base + 8 * slot) (lines (drop at t))) inside)
+
+  slot-rest : pastSlot (base + 8 * slot) (lines (drop at t)) ≡ lines (drop (at + 41 * k) t)
+  slot-rest = rw lines-are (slot-past (base + 8 * slot) (lines (drop at t)) ∙ sym (lead-past Word _ t at (lead-slot (base + 8 * slot) (lines (drop at t)))))
+
+  next-slot : base + 8 * slot + 8 ≡ base + 8 * (slot + 1)
+  next-slot = omega arith
+
+  pub count-turn : slot < slots → slotCount (base + 8 * slot) (slots - slot) (lines (drop at t)) ≡ k + slotCount (base + 8 * (slot + 1)) (slots - (slot + 1)) (lines (drop (at + 41 * k) t))
+  count-turn more = rw (one-less slot more, count-suc, next-slot, slot-rest, lines-are)
+
+  pub bytes-turn : slot < slots → slotBytes (base + 8 * slot) (slots - slot) (lines (drop at t)) ≡ littleBytes 8 v ++ slotBytes (base + 8 * (slot + 1)) (slots - (slot + 1)) (lines (drop (at + 41 * k) t))
+  bytes-turn more = rw (one-less slot more, bytes-suc, next-slot, slot-rest, value-is)
+
+-- all values
+pub count-start : (base : ℕ) (ls : List (List ℕ)) → slotCount base slots ls ≡ 0 + slotCount (base + 0) slots ls
+count-start base ls = rw (add-zero, zero-add)
+
+-- no values
+pub count-none : (address slot : ℕ) (ls : List (List ℕ)) → slots ≤ slot → slotCount address (slots - slot) ls ≡ 0
+unfolding slotCount
+count-none address slot ls end = let none : slots - slot ≡ 0 = omega arith in rw none
+
+pub bytes-none : (address slot : ℕ) (ls : List (List ℕ)) → slots ≤ slot → slotBytes address (slots - slot) ls ≡ []
+unfolding slotBytes
+bytes-none address slot ls end = let none : slots - slot ≡ 0 = omega arith in rw none
+
+pub few-lines : (v : ℕ) → lineCount v ≤ 1
+few-lines v = go (eqb v 0)
+  where
+    go : (b : Bool) → cond b 0 1 ≤ 1
+    go true = omega arith
+    go false = omega arith

@@ -1,0 +1,132 @@
+-- `fill_page` meets its contract. The invariant: the lines counted and those from here on are all of them, and what is still to be laid,
+-- from here on, gives the whole. Assumes nothing.
+use Prim.Native.Nat.{ℕ, _+_, _-_, _*_, _/_, _≤_}
+use mathlib.Core.Path.{_≡_, refl, sym, _∙_}
+use mathlib.Core.List.{List}
+use native.Mathlib.Omega.{arith}
+use lib.ListN.{length, drop}
+use borrow.Author.Needs.{needs}
+use Rattle.memory.specs.Pages.{pageBytes, pageOf}
+use Rattle.sheet.specs.Lines.{lines}
+use Rattle.sheet.specs.Sheets.{slots}
+use Rattle.sheet.specs.Reading.{slotValue, slotBytes}
+use Rattle.sheet.specs.Buffers.{laid}
+use Rattle.sheet_read.specs.Scan.{slotCount}
+use Rattle.sheet_read.proofs.Stages.{counted-turn, counted-end, count-start, slot-end, count-turn, count-none, few-lines}
+use Rattle.sheet_read.proofs.Fills.{slot-start, slot-turn, slot-finish}
+use Rattle.sheet_read.proofs.fill.fill_page.Statement.{statement}
+use Rattle.sheet_read.proofs.fill.fill_page.Tie as tie
+
+abbrev Inv-loop : tie.InvT-loop
+Inv-loop text from entry bytes₀ at base n₀ here₀ slot₀ bytes n here slot = (slotCount base slots (lines (drop from text)) ≡ n + slotCount (base + 8 * slot) (slots - slot) (lines (drop here text))) × (laid bytes₀ at (slotBytes base slots (lines (drop from text))) ≡ laid bytes (at + 8 * slot) (slotBytes (base + 8 * slot) (slots - slot) (lines (drop here text)))) × (here ≤ length text) × (n ≤ slot) × (slot ≤ slots) × (length bytes ≡ length bytes₀)
+
+abbrev μ-loop : tie.MeasureT-loop
+μ-loop text from entry bytes₀ at base n₀ here₀ slot₀ bytes n here slot = slots - slot
+
+div-base : tie.Need-div-base Inv-loop μ-loop
+div-base c = search needs
+
+mul-base : tie.Need-mul-base Inv-loop μ-loop
+mul-base c = search needs
+
+abbrev start : tie.At-loop Inv-loop μ-loop → tie.Start Inv-loop μ-loop
+start c = c .before .before .before
+
+abbrev text : tie.At-loop Inv-loop μ-loop → List ℕ
+text c = start c .args .text .now
+
+abbrev base : tie.At-loop Inv-loop μ-loop → ℕ
+base c = start c .args .entry / pageBytes * pageBytes
+
+loop-holds : tie.Need-loop-holds Inv-loop μ-loop
+loop-holds c = (count-start _ _, slot-start _ _ _ _, omega arith, omega arith, omega arith, refl)
+
+mul-slot-value : tie.Need-mul-slot-value Inv-loop μ-loop
+mul-slot-value c = omega arith
+
+add-slot-value : tie.Need-add-slot-value Inv-loop μ-loop
+add-slot-value c = omega arith
+
+slot-value-requires : tie.Need-slot-value-requires Inv-loop μ-loop
+slot-value-requires c κs = search needs
+
+mul-put-value : tie.Need-mul-put-value Inv-loop μ-loop
+mul-put-value c = omega arith
+
+add-put-value : tie.Need-add-put-value Inv-loop μ-loop
+add-put-value c = omega arith
+
+put-value-requires : tie.Need-put-value-requires Inv-loop μ-loop
+put-value-requires c κs = omega arith
+
+line-count-requires : tie.Need-line-count-requires Inv-loop μ-loop
+line-count-requires c κs = search needs
+
+abbrev loopAt : tie.After-line-count Inv-loop μ-loop → tie.At-loop Inv-loop μ-loop
+loopAt c = c .before .before .before .before .before .before .before
+
+value-is : (c : tie.After-line-count Inv-loop μ-loop) → c .before .before .before .before .before .slot-value .result ≡ slotValue (base (loopAt c) + 8 * loopAt c .loop .slot) (lines (drop (loopAt c .loop .here) (text (loopAt c))))
+value-is c = c .before .before .before .before .before .slot-value .ensures
+
+few : (c : tie.After-line-count Inv-loop μ-loop) → c .line-count .result ≤ 1
+few c = rw (c .line-count .ensures) (few-lines (c .before .before .before .before .before .slot-value .result))
+
+past : (c : tie.After-line-count Inv-loop μ-loop) → loopAt c .loop .here + 41 * c .line-count .result ≤ length (text (loopAt c))
+past c = slot-end (text (loopAt c)) (loopAt c .loop .here) (base (loopAt c)) (loopAt c .loop .slot) _ _ (value-is c) (c .line-count .ensures) (loopAt c .loop .inv .2)
+
+add-n : tie.Need-add-n Inv-loop μ-loop
+add-n c = omega (arith, few c)
+
+mul-here : tie.Need-mul-here Inv-loop μ-loop
+mul-here c = omega (arith, few c)
+
+add-here : tie.Need-add-here Inv-loop μ-loop
+add-here c = omega (arith, past c)
+
+add-slot : tie.Need-add-slot Inv-loop μ-loop
+add-slot c = omega arith
+
+loop-less : tie.Need-loop-less Inv-loop μ-loop
+loop-less c = omega arith
+
+loop-again : tie.Need-loop-again Inv-loop μ-loop
+loop-again c = (
+  counted-turn _ _ _ (loopAt c .loop .inv .0) (count-turn (text (loopAt c)) (loopAt c .loop .here) (base (loopAt c)) (loopAt c .loop .slot) _ _ (value-is c) (c .line-count .ensures) (c .before .before .before .before .before .before .loop-test .taken)),
+  rw (c .before .before .before .put-value .ensures) (loopAt c .loop .inv .1 ∙ slot-turn (text (loopAt c)) (loopAt c .loop .here) (base (loopAt c)) (loopAt c .loop .slot) _ _ (value-is c) (c .line-count .ensures) (c .before .before .before .before .before .before .loop-test .taken) (loopAt c .loop .bytes) (start (loopAt c) .args .at) (omega arith)),
+  past c,
+  omega (arith, few c),
+  omega arith,
+  c .before .before .bytes .given ∙ loopAt c .loop .inv .5,
+)
+
+same-length : tie.Need-same-length Inv-loop μ-loop
+same-length c = c .before .loop .inv .5
+
+returns : tie.Need-returns Inv-loop μ-loop
+unfolding pageOf
+returns c = (counted-end _ (c .before .loop .inv .0) (count-none _ (c .before .loop .slot) _ (c .loop-test .left)), sym (c .before .loop .inv .1 ∙ slot-finish _ _ _ (c .before .loop .slot) _ (c .loop-test .left)))
+
+pub fill-page-spec : {M : Type 1} → statement M
+fill-page-spec =
+    tie.close
+    (tie.spec
+    Inv-loop
+    μ-loop
+    div-base
+    mul-base
+    loop-holds
+    mul-slot-value
+    add-slot-value
+    slot-value-requires
+    mul-put-value
+    add-put-value
+    put-value-requires
+    line-count-requires
+    add-n
+    mul-here
+    add-here
+    add-slot
+    loop-less
+    loop-again
+    same-length
+    returns)

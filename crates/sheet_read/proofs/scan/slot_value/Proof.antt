@@ -1,0 +1,65 @@
+-- `slot_value` meets its contract: the tests are those of the definition, but that for a value of 0, which answers 0 itself. Assumes nothing.
+use Prim.Native.Nat.{ℕ, _+_, _≤_}
+use mathlib.Core.Path.{_≡_, sym, _∙_}
+use mathlib.Core.Bool.{true}
+use mathlib.Core.List.{List}
+use native.Mathlib.Omega.{arith}
+use lib.ListN.{length, drop}
+use Rattle.sheet.specs.Lines.{begins, form}
+use Rattle.sheet.specs.declared.line.Line.the-variants.{Word}
+use Rattle.sheet_read.proofs.Places.{line-past}
+use Rattle.sheet_read.proofs.Stages.{slot-here, slot-there, slot-none}
+use borrow.Author.Needs.{needs}
+use borrow.Author.Tests.{not-true, not-false}
+use Rattle.sheet_read.proofs.scan.slot_value.Statement.{statement}
+use Rattle.sheet_read.proofs.scan.slot_value.Tie as tie
+
+stands-requires : tie.Need-stands-requires
+stands-requires c κs = search needs
+
+abbrev text : tie.After-stands → List ℕ
+text c = c .before .before .args .text .now
+
+abbrev at : tie.After-stands → ℕ
+at c = c .before .before .args .at
+
+-- a word line stands here
+begun : (c : tie.Else1) → begins (form Word) (drop (at (c .before)) (text (c .before))) ≡ true
+begun c = sym (c .before .stands .ensures) ∙ not-false _ (c .if1 .left)
+
+past : (c : tie.Else1) → at (c .before) + 41 ≤ length (text (c .before))
+past c = line-past Word (text (c .before)) (at (c .before)) (begun c)
+
+returns : tie.Need-returns
+returns c = sym (slot-none (text (c .before)) (at (c .before)) _ (sym (c .before .stands .ensures) ∙ not-true _ (c .if1 .taken)))
+
+add-number : tie.Need-add-number
+add-number c = omega (arith, past c)
+
+number-requires : tie.Need-number-requires
+number-requires c κs = search needs
+
+returns-2 : tie.Need-returns-2
+returns-2 c = sym (slot-there (text (c .before .before .before)) (at (c .before .before .before)) _ (begun (c .before .before)) (λ e. c .if2 .taken (c .before .number .ensures ∙ e)))
+
+add-number-2 : tie.Need-add-number-2
+add-number-2 c = omega (arith, past (c .before .before))
+
+number-requires-2 : tie.Need-number-requires-2
+number-requires-2 c κs = search needs
+
+returns-3 : tie.Need-returns-3
+returns-3 c = c .number2 .ensures ∙ sym (slot-here (text (c .before .before .before .before)) (at (c .before .before .before .before)) _ (begun (c .before .before .before)) (sym (c .before .before .number .ensures) ∙ c .before .if2 .left))
+
+pub slot-value-spec : {M : Type 1} → statement M
+slot-value-spec =
+    tie.close
+    (tie.spec
+    stands-requires
+    returns
+    add-number
+    number-requires
+    returns-2
+    add-number-2
+    number-requires-2
+    returns-3)

@@ -1,0 +1,99 @@
+-- `words_of_page` meets its contract. The invariant: the lines counted and those of the values from here on are all of them. Assumes nothing.
+use Prim.Native.Nat.{ℕ, _+_, _-_, _*_, _/_, _≤_}
+use mathlib.Core.Path.{_≡_}
+use mathlib.Core.List.{List}
+use native.Mathlib.Omega.{arith}
+use lib.ListN.{length, drop}
+use borrow.Author.Needs.{needs}
+use Rattle.memory.specs.Pages.{pageBytes, pageOf}
+use Rattle.sheet.specs.Lines.{lines}
+use Rattle.sheet.specs.Sheets.{slots}
+use Rattle.sheet_read.specs.Scan.{slotCount}
+use Rattle.sheet_read.proofs.Stages.{counted-turn, counted-end, count-start, slot-end, count-turn, count-none, few-lines}
+use Rattle.sheet_read.proofs.scan.words_of_page.Statement.{statement}
+use Rattle.sheet_read.proofs.scan.words_of_page.Tie as tie
+
+abbrev Inv-loop : tie.InvT-loop
+Inv-loop text at entry base n₀ here₀ slot₀ n here slot = (slotCount base slots (lines (drop at text)) ≡ n + slotCount (base + 8 * slot) (slots - slot) (lines (drop here text))) × (here ≤ length text) × (n ≤ slot) × (slot ≤ slots)
+
+abbrev μ-loop : tie.MeasureT-loop
+μ-loop text at entry base n₀ here₀ slot₀ n here slot = slots - slot
+
+div-base : tie.Need-div-base Inv-loop μ-loop
+div-base c = search needs
+
+mul-base : tie.Need-mul-base Inv-loop μ-loop
+mul-base c = search needs
+
+abbrev text : tie.At-loop Inv-loop μ-loop → List ℕ
+text c = c .before .before .args .text .now
+
+abbrev base : tie.At-loop Inv-loop μ-loop → ℕ
+base c = c .before .before .args .entry / pageBytes * pageBytes
+
+loop-holds : tie.Need-loop-holds Inv-loop μ-loop
+loop-holds c = (count-start _ _, omega arith, omega arith, omega arith)
+
+mul-slot-value : tie.Need-mul-slot-value Inv-loop μ-loop
+mul-slot-value c = omega arith
+
+add-slot-value : tie.Need-add-slot-value Inv-loop μ-loop
+add-slot-value c = omega arith
+
+slot-value-requires : tie.Need-slot-value-requires Inv-loop μ-loop
+slot-value-requires c κs = search needs
+
+line-count-requires : tie.Need-line-count-requires Inv-loop μ-loop
+line-count-requires c κs = search needs
+
+abbrev loopAt : tie.After-line-count Inv-loop μ-loop → tie.At-loop Inv-loop μ-loop
+loopAt c = c .before .before .before
+
+few : (c : tie.After-line-count Inv-loop μ-loop) → c .line-count .result ≤ 1
+few c = rw (c .line-count .ensures) (few-lines (c .before .slot-value .result))
+
+past : (c : tie.After-line-count Inv-loop μ-loop) → loopAt c .loop .here + 41 * c .line-count .result ≤ length (text (loopAt c))
+past c = slot-end (text (loopAt c)) (loopAt c .loop .here) (base (loopAt c)) (loopAt c .loop .slot) _ _ (c .before .slot-value .ensures) (c .line-count .ensures) (loopAt c .loop .inv .1)
+
+add-n : tie.Need-add-n Inv-loop μ-loop
+add-n c = omega (arith, few c)
+
+mul-here : tie.Need-mul-here Inv-loop μ-loop
+mul-here c = omega (arith, few c)
+
+add-here : tie.Need-add-here Inv-loop μ-loop
+add-here c = omega (arith, past c)
+
+add-slot : tie.Need-add-slot Inv-loop μ-loop
+add-slot c = omega arith
+
+loop-less : tie.Need-loop-less Inv-loop μ-loop
+loop-less c = omega arith
+
+loop-again : tie.Need-loop-again Inv-loop μ-loop
+loop-again c = (counted-turn _ _ _ (loopAt c .loop .inv .0) (count-turn (text (loopAt c)) (loopAt c .loop .here) (base (loopAt c)) (loopAt c .loop .slot) _ _ (c .before .slot-value .ensures) (c .line-count .ensures) (c .before .before .loop-test .taken)), past c, omega (arith, few c), omega arith)
+
+returns : tie.Need-returns Inv-loop μ-loop
+unfolding pageOf
+returns c = counted-end _ (c .before .loop .inv .0) (count-none _ (c .before .loop .slot) _ (c .loop-test .left))
+
+pub words-of-page-spec : {M : Type 1} → statement M
+words-of-page-spec =
+    tie.close
+    (tie.spec
+    Inv-loop
+    μ-loop
+    div-base
+    mul-base
+    loop-holds
+    mul-slot-value
+    add-slot-value
+    slot-value-requires
+    line-count-requires
+    add-n
+    mul-here
+    add-here
+    add-slot
+    loop-less
+    loop-again
+    returns)
