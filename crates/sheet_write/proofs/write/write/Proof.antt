@@ -1,7 +1,5 @@
 -- `write` meets its contract: its tests are those of a run, and a run that passes them is printed. Assumes nothing.
-use Prim.Native.Nat.{ℕ}
 use mathlib.Core.Path.{_≡_, sym, _∙_}
-use mathlib.Core.Bool.{Bool}
 use lib.ListN.{length}
 use Rattle.replay.specs.Run.{check}
 use Rattle.sheet_write.specs.Writes.{goodState}
