@@ -95,7 +95,7 @@ pub extern "C" fn driftpocket_sheet_write(
     if report.len() < WRITE_REPORT {
         return TOO_SHORT;
     }
-    let numbers = write_report(sheet_write::write::write(state, pages, bytes, words, text));
+    let numbers = write_report(sheet_write::write(state, pages, bytes, words, text));
     copy(&numbers, report);
     numbers[0]
 }

@@ -1,6 +1,6 @@
 -- The lines of a sheet (docs/RULES.md, "Run sheets"): a name, then its numbers, each behind a tab, then a line feed. What holds of
 -- one kind of line holds of all five, so everything here takes the kind. Assumes nothing.
-use Prim.Native.Nat.{ℕ, zero, suc, _+_, _*_}
+use Prim.Native.Nat.{ℕ, zero, suc}
 use mathlib.Core.Bool.{Bool, true, false, cond, _&&_}
 use mathlib.Core.List.{List, [], _∷_, _++_}
 use lib.ListN.{length, take, drop, replicate}

@@ -1,8 +1,8 @@
 -- Reading a sheet: from its lines, stage by stage; each stage takes lines while they are its own, and the first line that is left over
 -- is refused. That this is the inverse of `text`, and that the refused line is the first that no sheet has, is proved
 -- (crates/sheet_claims), so it need not be believed. Assumes nothing.
-use Prim.Native.Nat.{ℕ, zero, suc, _+_, _-_, _*_, _/_, _%_}
-use mathlib.Core.Bool.{Bool, true, false, not, cond, _&&_}
+use Prim.Native.Nat.{ℕ, zero, suc, _+_, _-_, _/_, _%_}
+use mathlib.Core.Bool.{Bool, not, cond, _&&_}
 use mathlib.Core.List.{List, [], _∷_, _++_}
 use lib.ListN.{length, getD, take, drop}
 use lib.Dec.{eqb, leb}

@@ -23,7 +23,7 @@ use Rattle.sheet_read.specs.Reads.{Buffers, Read, byTest, byText, tested, fits,
 use Rattle.sheet_read.specs.declared.read.Sizes.{Sizes}
 use Rattle.sheet_read.specs.declared.read.Reading.the-variants.{Done as ReadDone, TooLong as ReadTooLong}
 use Rattle.sheet_write.specs.Writes.{Written, byTest as writtenByTest, goodState, printed, writes}
-use Rattle.sheet_write.specs.declared.write.Writing.the-variants.{Done as WriteDone, TooLong as WriteTooLong}
+use Rattle.sheet_write.specs.declared.text.Writing.the-variants.{Done as WriteDone, TooLong as WriteTooLong}
 use Rattle.sheet_claims.specs.LentBuffers.{WrittenRead, ReadWritten, ReadUntouched, WriteUntouched, readDone, writeDone}
 use Rattle.sheet_claims.proofs.RoundTripsProof.{reads-back, writes-back}
 use Rattle.sheet_claims.proofs.SavedLaws.{saved-sheeted, ascended-valid, saved-back}

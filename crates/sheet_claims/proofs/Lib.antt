@@ -8,6 +8,7 @@
 --     Promised              promised: all of them
 --     SavedLaws             saved-sheeted, ascended-valid, saved-back: from the lent buffers to a sheet and back
 
+pub mod WorkedProof
 pub mod RoundTripsProof
 pub mod FirstBadLineProof
 pub mod EqualMeaningProof

@@ -13,8 +13,8 @@ use Rattle.sheet_read.specs.declared.read.Sizes.{Sizes}
 use Rattle.sheet_read.specs.declared.read.Reading.{Reading}
 use Rattle.sheet_read.specs.declared.read.Reading.the-variants.{Done as ReadDone, NoSheet, Refused as ReadRefused, TooLong as ReadTooLong}
 use Rattle.sheet_write.specs.Writes.{printed, writes}
-use Rattle.sheet_write.specs.declared.write.Writing.{Writing}
-use Rattle.sheet_write.specs.declared.write.Writing.the-variants.{Done as WriteDone, Refused as WriteRefused, TooLong as WriteTooLong}
+use Rattle.sheet_write.specs.declared.text.Writing.{Writing}
+use Rattle.sheet_write.specs.declared.text.Writing.the-variants.{Done as WriteDone, Refused as WriteRefused, TooLong as WriteTooLong}
 
 -- Whatever a write was done of, reading the text returns that run, its pages ascending: into every buffer that has room, and with the
 -- sizes that it needs where one has not.

@@ -1,5 +1,6 @@
 -- What is claimed of run sheets, to be read beside docs/RULES.md, "Run sheets". The definitions that these claims speak of are
 -- crates/sheet/specs.
+pub mod Worked
 pub mod RoundTrips
 pub mod FirstBadLine
 pub mod EqualMeaning

@@ -5,7 +5,6 @@ use mathlib.Core.List.{List}
 use lib.ListN.{length}
 use lib.Dec.{leb}
 use Rattle.processor.specs.State.{inRange}
-use Rattle.processor.specs.declared.answer.Refusal.{Refusal}
 use Rattle.replay.specs.Layout.{stateOf}
 use Rattle.replay.specs.Run.{check}
 use Rattle.replay.specs.declared.steps.Tested.{Tested}

@@ -10,7 +10,7 @@ use Rattle.replay.specs.declared.steps.Tested.the-variants.{Passed, Failed}
 use Rattle.sheet.specs.Buffers.{laid}
 use Rattle.sheet.specs.Sheets.{text, savedOf}
 use Rattle.sheet_write.specs.Writes.{Written, goodState, printed, writes}
-use Rattle.sheet_write.specs.declared.write.Writing.the-variants.{Done, Refused, TooLong}
+use Rattle.sheet_write.specs.declared.text.Writing.the-variants.{Done, Refused, TooLong}
 
 module _ (whole out : List ℕ) (long : ℕ) (long-is : long ≡ length whole) where
   pub too-long : length out < long → _≡_ {A = Written} (record { answer = TooLong long; text = out }) (printed whole out)

@@ -5,15 +5,14 @@ use mathlib.Core.List.{List}
 use lib.ListN.{length}
 use lib.Dec.{eqb, leb}
 use Rattle.processor.specs.State.{inRange}
-use Rattle.processor.specs.declared.answer.Refusal.{Refusal}
 use Rattle.replay.specs.Layout.{stateOf}
 use Rattle.replay.specs.Run.{check}
 use Rattle.replay.specs.declared.steps.Tested.{Tested}
 use Rattle.replay.specs.declared.steps.Tested.the-variants.{Passed, Failed}
 use Rattle.sheet.specs.Sheets.{savedOf, text}
 use Rattle.sheet.specs.Buffers.{laid}
-use Rattle.sheet_write.specs.declared.write.Writing.{Writing}
-use Rattle.sheet_write.specs.declared.write.Writing.the-variants.{Done, Refused, TooLong}
+use Rattle.sheet_write.specs.declared.text.Writing.{Writing}
+use Rattle.sheet_write.specs.declared.text.Writing.the-variants.{Done, Refused, TooLong}
 
 -- the answer, and what the text's buffer holds
 pub record Written : Type 0 where

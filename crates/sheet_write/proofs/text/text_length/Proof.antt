@@ -2,8 +2,8 @@
 use native.Mathlib.Omega.{arith}
 use Rattle.sheet_write.specs.Laying.{textLength}
 use borrow.Author.Needs.{needs}
-use Rattle.sheet_write.proofs.write.text_length.Statement.{statement}
-use Rattle.sheet_write.proofs.write.text_length.Tie as tie
+use Rattle.sheet_write.proofs.text.text_length.Statement.{statement}
+use Rattle.sheet_write.proofs.text.text_length.Tie as tie
 
 width-requires : tie.Need-width-requires
 width-requires c κs = search needs

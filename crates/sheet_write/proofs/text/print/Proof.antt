@@ -12,8 +12,8 @@ use Rattle.sheet_write.proofs.Answers.{too-long, done}
 use Rattle.sheet_write.proofs.Apart.{lent, ten-fields}
 use Rattle.sheet_write.proofs.Sizes.{nonzeros-most, text-size}
 use borrow.Author.Needs.{needs}
-use Rattle.sheet_write.proofs.write.print.Statement.{statement}
-use Rattle.sheet_write.proofs.write.print.Tie as tie
+use Rattle.sheet_write.proofs.text.print.Statement.{statement}
+use Rattle.sheet_write.proofs.text.print.Tie as tie
 
 tested : (c : tie.Start) → Passes (c .args .pages .now) (length (c .args .bytes .now)) (goodState (c .args .state .now)) (length (c .args .words .now))
 tested c = passes _ _ _ _ (c .pre)

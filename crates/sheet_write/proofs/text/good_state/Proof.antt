@@ -4,8 +4,8 @@ use borrow.Author.Tests.{eq-eqb, ne-eqb}
 use Rattle.processor.specs.State.{inRange}
 use Rattle.sheet_write.specs.Writes.{goodState}
 use borrow.Author.Needs.{needs}
-use Rattle.sheet_write.proofs.write.good_state.Statement.{statement}
-use Rattle.sheet_write.proofs.write.good_state.Tie as tie
+use Rattle.sheet_write.proofs.text.good_state.Statement.{statement}
+use Rattle.sheet_write.proofs.text.good_state.Tie as tie
 
 returns : tie.Need-returns
 unfolding goodState

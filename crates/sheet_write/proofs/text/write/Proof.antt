@@ -5,8 +5,8 @@ use Rattle.replay.specs.Run.{check}
 use Rattle.sheet_write.specs.Writes.{goodState}
 use Rattle.sheet_write.proofs.Answers.{refused, passed}
 use borrow.Author.Needs.{needs}
-use Rattle.sheet_write.proofs.write.write.Statement.{statement}
-use Rattle.sheet_write.proofs.write.write.Tie as tie
+use Rattle.sheet_write.proofs.text.write.Statement.{statement}
+use Rattle.sheet_write.proofs.text.write.Tie as tie
 
 -- what the tests found
 tested : (c : tie.After-check)
