@@ -35,7 +35,7 @@ digits = 16
 unfoldable pub number : ℕ → List ℕ
 number v = letterX ∷ hex digits v
 
--- ---- reading
+-- ---- reading: nothing here need be believed, since it is pinned to writing (crates/sheet_claims)
 
 -- 0 to 9, or a to f
 unfoldable pub isDigit : ℕ → Bool

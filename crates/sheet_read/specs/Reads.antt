@@ -23,7 +23,7 @@ pub record Buffers : Type 0 where
   pub bytes : List ℕ
   pub words : List ℕ
 
--- the answer, and what the buffers hold
+-- the answer, and what the buffers hold. `Reading` is the type of answers that src/ declares, not the file Reading of crates/sheet/specs
 pub record Read : Type 0 where
   pub answer : Reading
   pub buffers : Buffers
@@ -57,8 +57,12 @@ filled s lent =
       words = laid (lent .words) 0 (s .words);
     }
 
+-- a run that passed its tests: into the buffers, or with the sizes that it needs
+abbrev pub delivered : Saved → Buffers → Read
+delivered s lent = cond (fits s lent) (record { answer = Done (sizesOf s); buffers = filled s lent }) (untouched (TooLong (sizesOf s)) lent)
+
 abbrev pub byTest : Tested → Saved → Buffers → Read
-byTest Passed s lent = cond (fits s lent) (record { answer = Done (sizesOf s); buffers = filled s lent }) (untouched (TooLong (sizesOf s)) lent)
+byTest Passed s lent = delivered s lent
 byTest (Failed refusal) s lent = untouched (Refused refusal) lent
 
 abbrev pub byText : Parsed → Buffers → Read
