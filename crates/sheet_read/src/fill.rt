@@ -11,10 +11,12 @@ ghost use Rattle.sheet.specs.Buffers.{laid};
 ghost use Rattle.sheet.specs.declared.line.Line.the-variants.{Page as PageLine};
 ghost use Rattle.sheet_read.specs.Scan.{Lead, slotCount, bodyAt, wordsAt, entriesIn};
 use crate::scan::BODY;
+use crate::scan::ENTRY_AT;
 use crate::scan::PAGE_LINE;
 use crate::scan::SLOTS;
 use crate::scan::WORD_LINE;
 use crate::scan::line_count;
+use crate::scan::page_of;
 use crate::scan::slot_value;
 use memory::PAGE_BYTES;
 use sheet::Line;
@@ -68,7 +70,7 @@ fn fill_page(text: &[u8], from: usize, entry: u64, bytes: &mut [u8], at: usize) 
     ensures counted { λ r. ⌜ r ≡ slotCount (pageOf entry) slots (lines (drop from (now (text .entry)))) ⌝ }
     ensures filled { λ _. ⌜ now (bytes .exit) ≡ laid (now (bytes .entry)) at (slotBytes (pageOf entry) slots (lines (drop from (now (text .entry))))) ⌝ }
 {
-    let base = entry / (PAGE_BYTES as u64) * (PAGE_BYTES as u64);
+    let base = page_of(entry);
     let mut n: usize = 0;
     let mut here = from;
     let mut slot: u64 = 0;
@@ -93,7 +95,7 @@ pub fn fill_pages(text: &[u8], pages: usize, bytes: &mut [u8])
     let mut to: usize = 0;
     let mut left = pages;
     while 0 < left {
-        let found = fill_page(text, here, number(text, page + 6), bytes, to);
+        let found = fill_page(text, here, number(text, page + ENTRY_AT), bytes, to);
         here += WORD_LINE * found;
         page += PAGE_LINE;
         to += PAGE_BYTES;

@@ -27,6 +27,15 @@ pub const WORD_LINE: usize = 41;
 
 pub const DO_LINE: usize = 75;
 
+// Where the number of a sheet line begins, that of a page line, and the two of a word line.
+const VERSION_AT: usize = 7;
+
+pub const ENTRY_AT: usize = 6;
+
+const ADDRESS_AT: usize = 6;
+
+const VALUE_AT: usize = 24;
+
 // How many values of 8 bytes a page has.
 pub const SLOTS: u64 = 512;
 
@@ -52,7 +61,7 @@ fn count_pages(text: &[u8]) -> usize
     let mut least: u64 = 0;
     let mut at = BODY;
     while Line::Page.stands(text, at) {
-        let frame = number(text, at + 6) / (PAGE_BYTES as u64);
+        let frame = number(text, at + ENTRY_AT) / (PAGE_BYTES as u64);
         if frame < least {
             return n;
         }
@@ -70,10 +79,10 @@ pub fn slot_value(text: &[u8], at: usize, address: u64) -> u64
     if !Line::Word.stands(text, at) {
         return 0;
     }
-    if number(text, at + 6) != address {
+    if number(text, at + ADDRESS_AT) != address {
         return 0;
     }
-    number(text, at + 24)
+    number(text, at + VALUE_AT)
 }
 
 // How many lines a value takes: none where it is 0.
@@ -83,12 +92,19 @@ pub fn line_count(value: u64) -> usize
     if value == 0 { 0 } else { 1 }
 }
 
+// The address of an entry's page.
+pub fn page_of(entry: u64) -> u64
+    ensures { λ r. ⌜ r ≡ pageOf entry ⌝ }
+{
+    entry / (PAGE_BYTES as u64) * (PAGE_BYTES as u64)
+}
+
 // How many lines the values of an entry's page take, from a place on.
 fn words_of_page(text: &[u8], at: usize, entry: u64) -> usize
     requires { ⌜ at ≤ length (now text) ⌝ }
     ensures { λ r. ⌜ r ≡ slotCount (pageOf entry) slots (lines (drop at (now (text .entry)))) ⌝ }
 {
-    let base = entry / (PAGE_BYTES as u64) * (PAGE_BYTES as u64);
+    let base = page_of(entry);
     let mut n: usize = 0;
     let mut here = at;
     let mut slot: u64 = 0;
@@ -111,7 +127,7 @@ fn count_words(text: &[u8], pages: usize) -> usize
     let mut page = BODY;
     let mut left = pages;
     while 0 < left {
-        let found = words_of_page(text, here, number(text, page + 6));
+        let found = words_of_page(text, here, number(text, page + ENTRY_AT));
         n += found;
         here += WORD_LINE * found;
         page += PAGE_LINE;
@@ -159,7 +175,7 @@ pub fn scan_sheet(text: &[u8]) -> Scan
     if !Line::Sheet.stands(text, 0) {
         return Scan::NoSheet(1);
     }
-    if number(text, 7) != VERSION {
+    if number(text, VERSION_AT) != VERSION {
         return Scan::NoSheet(1);
     }
     if !Line::State.stands(text, STATE) {

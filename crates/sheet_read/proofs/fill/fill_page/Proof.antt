@@ -6,7 +6,7 @@ use mathlib.Core.List.{List}
 use native.Mathlib.Omega.{arith}
 use lib.ListN.{length, drop}
 use borrow.Author.Needs.{needs}
-use Rattle.memory.specs.Pages.{pageBytes, pageOf}
+use Rattle.memory.specs.Pages.{pageOf}
 use Rattle.sheet.specs.Lines.{lines}
 use Rattle.sheet.specs.Sheets.{slots}
 use Rattle.sheet.specs.Reading.{slotValue, slotBytes}
@@ -23,20 +23,17 @@ Inv-loop text from entry bytes₀ at base n₀ here₀ slot₀ bytes n here slot
 abbrev μ-loop : tie.MeasureT-loop
 μ-loop text from entry bytes₀ at base n₀ here₀ slot₀ bytes n here slot = slots - slot
 
-div-base : tie.Need-div-base Inv-loop μ-loop
-div-base c = search needs
-
-mul-base : tie.Need-mul-base Inv-loop μ-loop
-mul-base c = search needs
+page-of-requires : tie.Need-page-of-requires Inv-loop μ-loop
+page-of-requires c κs = search needs
 
 abbrev start : tie.At-loop Inv-loop μ-loop → tie.Start Inv-loop μ-loop
-start c = c .before .before .before
+start c = c .before .before .before .before
 
 abbrev text : tie.At-loop Inv-loop μ-loop → List ℕ
 text c = start c .args .text .now
 
 abbrev base : tie.At-loop Inv-loop μ-loop → ℕ
-base c = start c .args .entry / pageBytes * pageBytes
+base c = c .before .page-of .result
 
 loop-holds : tie.Need-loop-holds Inv-loop μ-loop
 loop-holds c = (count-start _ _, slot-start _ _ _ _, omega arith, omega arith, omega arith, refl)
@@ -45,7 +42,8 @@ mul-slot-value : tie.Need-mul-slot-value Inv-loop μ-loop
 mul-slot-value c = omega arith
 
 add-slot-value : tie.Need-add-slot-value Inv-loop μ-loop
-add-slot-value c = omega arith
+unfolding pageOf
+add-slot-value c = let base-is = c .before .before .page-of .ensures in omega arith
 
 slot-value-requires : tie.Need-slot-value-requires Inv-loop μ-loop
 slot-value-requires c κs = search needs
@@ -103,8 +101,7 @@ same-length : tie.Need-same-length Inv-loop μ-loop
 same-length c = c .before .loop .inv .5
 
 returns : tie.Need-returns Inv-loop μ-loop
-unfolding pageOf
-returns c = (counted-end _ (c .before .loop .inv .0) (count-none _ (c .before .loop .slot) _ (c .loop-test .left)), sym (c .before .loop .inv .1 ∙ slot-finish _ _ _ (c .before .loop .slot) _ (c .loop-test .left)))
+returns c = rw (← c .before .before .page-of .ensures) ((counted-end _ (c .before .loop .inv .0) (count-none _ (c .before .loop .slot) _ (c .loop-test .left)), sym (c .before .loop .inv .1 ∙ slot-finish _ _ _ (c .before .loop .slot) _ (c .loop-test .left))))
 
 pub fill-page-spec : {M : Type 1} → statement M
 fill-page-spec =
@@ -112,8 +109,7 @@ fill-page-spec =
     (tie.spec
     Inv-loop
     μ-loop
-    div-base
-    mul-base
+    page-of-requires
     loop-holds
     mul-slot-value
     add-slot-value

@@ -5,7 +5,7 @@ use mathlib.Core.List.{List}
 use native.Mathlib.Omega.{arith}
 use lib.ListN.{length, drop}
 use borrow.Author.Needs.{needs}
-use Rattle.memory.specs.Pages.{pageBytes, pageOf}
+use Rattle.memory.specs.Pages.{pageOf}
 use Rattle.sheet.specs.Lines.{lines}
 use Rattle.sheet.specs.Sheets.{slots}
 use Rattle.sheet_read.specs.Scan.{slotCount}
@@ -19,17 +19,14 @@ Inv-loop text at entry base n₀ here₀ slot₀ n here slot = (slotCount base s
 abbrev μ-loop : tie.MeasureT-loop
 μ-loop text at entry base n₀ here₀ slot₀ n here slot = slots - slot
 
-div-base : tie.Need-div-base Inv-loop μ-loop
-div-base c = search needs
-
-mul-base : tie.Need-mul-base Inv-loop μ-loop
-mul-base c = search needs
+page-of-requires : tie.Need-page-of-requires Inv-loop μ-loop
+page-of-requires c κs = search needs
 
 abbrev text : tie.At-loop Inv-loop μ-loop → List ℕ
-text c = c .before .before .args .text .now
+text c = c .before .before .before .args .text .now
 
 abbrev base : tie.At-loop Inv-loop μ-loop → ℕ
-base c = c .before .before .args .entry / pageBytes * pageBytes
+base c = c .before .page-of .result
 
 loop-holds : tie.Need-loop-holds Inv-loop μ-loop
 loop-holds c = (count-start _ _, omega arith, omega arith, omega arith)
@@ -38,7 +35,8 @@ mul-slot-value : tie.Need-mul-slot-value Inv-loop μ-loop
 mul-slot-value c = omega arith
 
 add-slot-value : tie.Need-add-slot-value Inv-loop μ-loop
-add-slot-value c = omega arith
+unfolding pageOf
+add-slot-value c = let base-is = c .before .before .page-of .ensures in omega arith
 
 slot-value-requires : tie.Need-slot-value-requires Inv-loop μ-loop
 slot-value-requires c κs = search needs
@@ -74,8 +72,7 @@ loop-again : tie.Need-loop-again Inv-loop μ-loop
 loop-again c = (counted-turn _ _ _ (loopAt c .loop .inv .0) (count-turn (text (loopAt c)) (loopAt c .loop .here) (base (loopAt c)) (loopAt c .loop .slot) _ _ (c .before .slot-value .ensures) (c .line-count .ensures) (c .before .before .loop-test .taken)), past c, omega (arith, few c), omega arith)
 
 returns : tie.Need-returns Inv-loop μ-loop
-unfolding pageOf
-returns c = counted-end _ (c .before .loop .inv .0) (count-none _ (c .before .loop .slot) _ (c .loop-test .left))
+returns c = rw (← c .before .before .page-of .ensures) (counted-end _ (c .before .loop .inv .0) (count-none _ (c .before .loop .slot) _ (c .loop-test .left)))
 
 pub words-of-page-spec : {M : Type 1} → statement M
 words-of-page-spec =
@@ -83,8 +80,7 @@ words-of-page-spec =
     (tie.spec
     Inv-loop
     μ-loop
-    div-base
-    mul-base
+    page-of-requires
     loop-holds
     mul-slot-value
     add-slot-value
