@@ -8,9 +8,9 @@ use lib.Dec.{ltb}
 use Rattle.processor.specs.Answer.{refusalNumber}
 use Rattle.sheet.specs.Buffers.{laid}
 use Rattle.sheet_read.specs.Reads.{Buffers, Read, reads}
-use Rattle.sheet_read.specs.declared.read.Sizes.{Sizes}
-use Rattle.sheet_read.specs.declared.read.Reading.{Reading}
-use Rattle.sheet_read.specs.declared.read.Reading.the-variants.{Done as ReadDone, NoSheet, Refused as ReadRefused, TooLong as ReadTooLong}
+use Rattle.sheet_read.specs.declared.buffers.Sizes.{Sizes}
+use Rattle.sheet_read.specs.declared.buffers.Reading.{Reading}
+use Rattle.sheet_read.specs.declared.buffers.Reading.the-variants.{Done as ReadDone, NoSheet, Refused as ReadRefused, TooLong as ReadTooLong}
 use Rattle.sheet_write.specs.Writes.{Written, writes}
 use Rattle.sheet_write.specs.declared.text.Writing.{Writing}
 use Rattle.sheet_write.specs.declared.text.Writing.the-variants.{Done as WriteDone, Refused as WriteRefused, TooLong as WriteTooLong}

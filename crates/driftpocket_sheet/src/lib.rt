@@ -75,7 +75,7 @@ pub extern "C" fn driftpocket_sheet_read(
     if report.len() < READ_REPORT {
         return TOO_SHORT;
     }
-    let numbers = read_report(sheet_read::read::read(text, state, pages, bytes, words));
+    let numbers = read_report(sheet_read::read(text, state, pages, bytes, words));
     copy(&numbers, report);
     numbers[0]
 }

@@ -20,8 +20,8 @@ use Rattle.sheet.specs.Reading.{Parsed, sheet, noSheet, parsed}
 use Rattle.sheet.proofs.DigitLaws.{both}
 use Rattle.sheet.proofs.TestedLaws.{Passes, passes, passed, valid-list, list-valid}
 use Rattle.sheet_read.specs.Reads.{Buffers, Read, byTest, byText, tested, fits, filled, sizesOf, reads}
-use Rattle.sheet_read.specs.declared.read.Sizes.{Sizes}
-use Rattle.sheet_read.specs.declared.read.Reading.the-variants.{Done as ReadDone, TooLong as ReadTooLong}
+use Rattle.sheet_read.specs.declared.buffers.Sizes.{Sizes}
+use Rattle.sheet_read.specs.declared.buffers.Reading.the-variants.{Done as ReadDone, TooLong as ReadTooLong}
 use Rattle.sheet_write.specs.Writes.{Written, byTest as writtenByTest, goodState, printed, writes}
 use Rattle.sheet_write.specs.declared.text.Writing.the-variants.{Done as WriteDone, TooLong as WriteTooLong}
 use Rattle.sheet_claims.specs.RoundTrips.{SavedSheeted}

@@ -12,9 +12,9 @@ use Rattle.replay.specs.declared.steps.Tested.the-variants.{Passed, Failed}
 use Rattle.sheet.specs.Sheets.{Saved, entriesOf, bytesOf}
 use Rattle.sheet.specs.Reading.{Parsed, sheet, noSheet, parsed}
 use Rattle.sheet.specs.Buffers.{laid}
-use Rattle.sheet_read.specs.declared.read.Sizes.{Sizes}
-use Rattle.sheet_read.specs.declared.read.Reading.{Reading}
-use Rattle.sheet_read.specs.declared.read.Reading.the-variants.{Done, NoSheet, Refused, TooLong}
+use Rattle.sheet_read.specs.declared.buffers.Sizes.{Sizes}
+use Rattle.sheet_read.specs.declared.buffers.Reading.{Reading}
+use Rattle.sheet_read.specs.declared.buffers.Reading.the-variants.{Done, NoSheet, Refused, TooLong}
 
 -- what is read into
 pub record Buffers : Type 0 where

@@ -12,10 +12,8 @@ use crate::lay::lay;
 use crate::values::nonzero;
 use processor::Refusal;
 use replay::Tested;
+use sheet::FIELDS;
 use sheet::Line;
-
-// How many fields a state has.
-const FIELDS: usize = 10;
 
 // What writing a run answers.
 pub enum Writing {

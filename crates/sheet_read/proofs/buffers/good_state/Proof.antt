@@ -8,8 +8,8 @@ use Rattle.sheet.specs.declared.line.Line.the-variants.{State}
 use Rattle.sheet_read.specs.Scan.{stateAt}
 use Rattle.sheet_read.proofs.Leads.{numbers-length}
 use Rattle.sheet_read.proofs.Saved.{laid-whole}
-use Rattle.sheet_read.proofs.read.good_state.Statement.{statement}
-use Rattle.sheet_read.proofs.read.good_state.Tie as tie
+use Rattle.sheet_read.proofs.buffers.good_state.Statement.{statement}
+use Rattle.sheet_read.proofs.buffers.good_state.Tie as tie
 
 slice-aggregate-fill-lines : tie.Need-slice-aggregate-fill-lines
 slice-aggregate-fill-lines c = search needs

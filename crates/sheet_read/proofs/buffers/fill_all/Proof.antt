@@ -2,8 +2,8 @@
 use mathlib.Core.Path.{sym}
 use borrow.Author.Needs.{needs}
 use Rattle.sheet_read.proofs.Saved.{filled-is}
-use Rattle.sheet_read.proofs.read.fill_all.Statement.{statement}
-use Rattle.sheet_read.proofs.read.fill_all.Tie as tie
+use Rattle.sheet_read.proofs.buffers.fill_all.Statement.{statement}
+use Rattle.sheet_read.proofs.buffers.fill_all.Tie as tie
 
 fill-lines-requires : tie.Need-fill-lines-requires
 fill-lines-requires c κs = search needs

@@ -7,8 +7,8 @@ use borrow.Author.Tests.{not-true, not-false}
 use Rattle.sheet_read.specs.Reads.{Buffers}
 use Rattle.sheet_read.specs.Scan.{sizesAt, roomFor}
 use Rattle.sheet_read.proofs.Saved.{room-parts, too-long, loaded}
-use Rattle.sheet_read.proofs.read.load.Statement.{statement}
-use Rattle.sheet_read.proofs.read.load.Tie as tie
+use Rattle.sheet_read.proofs.buffers.load.Statement.{statement}
+use Rattle.sheet_read.proofs.buffers.load.Tie as tie
 
 mul-fits : tie.Need-mul-fits
 mul-fits c = search needs

@@ -5,8 +5,8 @@ use Prim.Native.Nat.{ℕ}
 use borrow.Author.Needs.{needs}
 use Rattle.sheet_read.specs.Scan.{Scanned, Shaped}
 use Rattle.sheet_read.proofs.Saved.{few-pages, refused, passed, no-sheet}
-use Rattle.sheet_read.proofs.read.read.Statement.{statement}
-use Rattle.sheet_read.proofs.read.read.Tie as tie
+use Rattle.sheet_read.proofs.buffers.read.Statement.{statement}
+use Rattle.sheet_read.proofs.buffers.read.Tie as tie
 
 scan-sheet-requires : tie.Need-scan-sheet-requires
 scan-sheet-requires c κs = search needs

@@ -1,8 +1,8 @@
 -- `fits` meets its contract: its tests are those of the definition. Assumes nothing.
 use borrow.Author.Tests.{le-leb, lt-leb}
 use Rattle.sheet_read.specs.Scan.{roomFor}
-use Rattle.sheet_read.proofs.read.fits.Statement.{statement}
-use Rattle.sheet_read.proofs.read.fits.Tie as tie
+use Rattle.sheet_read.proofs.buffers.fits.Statement.{statement}
+use Rattle.sheet_read.proofs.buffers.fits.Tie as tie
 
 returns : tie.Need-returns
 unfolding roomFor

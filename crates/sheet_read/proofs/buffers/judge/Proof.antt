@@ -9,8 +9,8 @@ use Rattle.memory.specs.Pages.{pageBytes}
 use Rattle.replay.specs.Run.{check}
 use Rattle.sheet_read.specs.Scan.{bodyAt, entriesIn}
 use Rattle.sheet_read.proofs.Saved.{laid-front, pages-long, too-many-pages, tested-is}
-use Rattle.sheet_read.proofs.read.judge.Statement.{statement}
-use Rattle.sheet_read.proofs.read.judge.Tie as tie
+use Rattle.sheet_read.proofs.buffers.judge.Statement.{statement}
+use Rattle.sheet_read.proofs.buffers.judge.Tie as tie
 
 returns : tie.Need-returns
 returns c = sym (too-many-pages _ _ (c .before .before .pre) (c .if1 .taken))

@@ -24,10 +24,8 @@ use memory::PAGE_BYTES;
 use memory::PAGE_LIMIT;
 use processor::Refusal;
 use replay::Tested;
+use sheet::FIELDS;
 use sheet::Line;
-
-// How many fields a state has.
-const FIELDS: usize = 10;
 
 // How many pages, bytes and words a run has.
 pub struct Sizes {
