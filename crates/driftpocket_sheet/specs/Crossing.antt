@@ -8,20 +8,25 @@ use lib.Dec.{ltb}
 use Rattle.processor.specs.Answer.{refusalNumber}
 use Rattle.sheet.specs.Buffers.{laid}
 use Rattle.sheet_read.specs.Reads.{Buffers, Read, reads}
-use Rattle.sheet_read.specs.declared.read.Reading.{Reading}
-use Rattle.sheet_read.specs.declared.read.Reading.the-variants.{Done as ReadDone, NoSheet, Refused as ReadRefused, TooLong as ReadTooLong}
+use Rattle.sheet_read.specs.declared.buffers.Sizes.{Sizes}
+use Rattle.sheet_read.specs.declared.buffers.Reading.{Reading}
+use Rattle.sheet_read.specs.declared.buffers.Reading.the-variants.{Done as ReadDone, NoSheet, Refused as ReadRefused, TooLong as ReadTooLong}
 use Rattle.sheet_write.specs.Writes.{Written, writes}
-use Rattle.sheet_write.specs.declared.write.Writing.{Writing}
-use Rattle.sheet_write.specs.declared.write.Writing.the-variants.{Done as WriteDone, Refused as WriteRefused, TooLong as WriteTooLong}
+use Rattle.sheet_write.specs.declared.text.Writing.{Writing}
+use Rattle.sheet_write.specs.declared.text.Writing.the-variants.{Done as WriteDone, Refused as WriteRefused, TooLong as WriteTooLong}
 
 -- ---- reports
 
--- a read: refusal, line, and how many pages, bytes and words there are, or are needed
+-- a refusal, or 0, with how many pages, bytes and words there are, or are needed
+abbrev pub sizedReport : ℕ → Sizes → List ℕ
+sizedReport refusal sizes = refusal ∷ 0 ∷ sizes .pages ∷ sizes .bytes ∷ sizes .words ∷ []
+
+-- a read: refusal, line, and the three sizes
 abbrev pub readReport : Reading → List ℕ
-readReport (ReadDone sizes) = 0 ∷ 0 ∷ sizes .pages ∷ sizes .bytes ∷ sizes .words ∷ []
+readReport (ReadDone sizes) = sizedReport 0 sizes
 readReport (NoSheet line) = 9 ∷ line ∷ 0 ∷ 0 ∷ 0 ∷ []
 readReport (ReadRefused refusal) = refusalNumber refusal ∷ 0 ∷ 0 ∷ 0 ∷ 0 ∷ []
-readReport (ReadTooLong sizes) = 8 ∷ 0 ∷ sizes .pages ∷ sizes .bytes ∷ sizes .words ∷ []
+readReport (ReadTooLong sizes) = sizedReport 8 sizes
 
 -- a write: refusal, and how long the text is, or would be
 abbrev pub writeReport : Writing → List ℕ

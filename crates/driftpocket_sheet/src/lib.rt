@@ -3,8 +3,9 @@ ghost use mathlib.Core.Path.{_≡_};
 ghost use Prim.Native.Nat.{_≤_};
 ghost use lib.ListN.{length};
 ghost use Rattle.sheet.specs.Buffers.{laid};
-ghost use Rattle.driftpocket_sheet.specs.Crossing.{readReport, writeReport, crossedRead, crossedWrite};
+ghost use Rattle.driftpocket_sheet.specs.Crossing.{sizedReport, readReport, writeReport, crossedRead, crossedWrite};
 use sheet_read::Reading;
+use sheet_read::Sizes;
 use sheet_write::Writing;
 
 // How many words the report of a read and of a write has.
@@ -27,26 +28,24 @@ fn copy(words: &[u64], report: &mut [u64])
     }
 }
 
+// A report with the sizes of a run.
+fn sized(refusal: u64, sizes: Sizes) -> [u64; 5]
+    ensures { λ r. ⌜ r ≡ sizedReport refusal sizes ⌝ }
+{
+    let pages = sizes.pages as u64;
+    let bytes = sizes.bytes as u64;
+    let words = sizes.words as u64;
+    [refusal, 0, pages, bytes, words]
+}
+
 fn read_report(answer: Reading) -> [u64; 5]
     ensures { λ r. ⌜ r ≡ readReport answer ⌝ }
 {
     match answer {
-        Reading::Done(sizes) => [
-            0,
-            0,
-            sizes.pages as u64,
-            sizes.bytes as u64,
-            sizes.words as u64,
-        ],
+        Reading::Done(sizes) => sized(0, sizes),
         Reading::NoSheet(line) => [9, line as u64, 0, 0, 0],
         Reading::Refused(refusal) => [refusal.number(), 0, 0, 0, 0],
-        Reading::TooLong(sizes) => [
-            8,
-            0,
-            sizes.pages as u64,
-            sizes.bytes as u64,
-            sizes.words as u64,
-        ],
+        Reading::TooLong(sizes) => sized(8, sizes),
     }
 }
 

@@ -9,7 +9,7 @@ use lib.Seq.{drop-at}
 use lib.Dec.{eqb}
 use borrow.Author.Tests.{eqb-true, eq-eqb, ne-eqb, not-true}
 use Rattle.sheet.specs.Digits.{lineFeed, isDigit}
-use Rattle.sheet.specs.Lines.{joined, before, lines, anyDigit, fitsMark, begins}
+use Rattle.sheet.specs.Lines.{joined, inFront, lines, anyDigit, fitsMark, begins}
 use Rattle.sheet.specs.Reading.{next}
 use Rattle.sheet.proofs.DigitLaws.{both, and-both}
 
@@ -109,7 +109,7 @@ lines-begins (m ∷ ms) (c ∷ cs) p h =
 
 -- ---- the lines of a text, joined
 
-joined-before : (c : ℕ) (ls : List (List ℕ)) → joined (before c ls) ≡ c ∷ joined ls
+joined-before : (c : ℕ) (ls : List (List ℕ)) → joined (inFront c ls) ≡ c ∷ joined ls
 unfolding joined
 joined-before c [] = refl
 joined-before c (l ∷ ls) = refl

@@ -9,6 +9,6 @@ use lib.Dec.{leb}
 unfoldable pub laid : List ℕ → ℕ → List ℕ → List ℕ
 laid out at piece = take at out ++ (piece ++ drop (at + length piece) out)
 
--- the same where there is room for all of it, else nothing
+-- the same where there is room for all of it, else nothing: what writing a single line leaves
 unfoldable pub laidIf : List ℕ → ℕ → List ℕ → List ℕ
 laidIf out at piece = cond (leb (at + length piece) (length out)) (laid out at piece) out

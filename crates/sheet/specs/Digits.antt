@@ -1,6 +1,6 @@
 -- Numbers as a sheet writes them: the letter x and 16 hexadecimal digits, lower case, highest first (docs/RULES.md, "Run sheets").
 -- Characters are their ASCII codes. Assumes nothing.
-use Prim.Native.Nat.{ℕ, zero, suc, _+_, _-_, _*_, _/_, _%_, _<_}
+use Prim.Native.Nat.{ℕ, zero, suc, _+_, _*_, _/_, _%_, _<_}
 use mathlib.Core.Bool.{Bool, cond, _&&_, _||_}
 use mathlib.Core.List.{List, [], _∷_, _++_}
 use lib.ListN.{getD}
@@ -35,7 +35,7 @@ digits = 16
 unfoldable pub number : ℕ → List ℕ
 number v = letterX ∷ hex digits v
 
--- ---- reading
+-- ---- reading: nothing here need be believed, since it is pinned to writing (crates/sheet_claims)
 
 -- 0 to 9, or a to f
 unfoldable pub isDigit : ℕ → Bool

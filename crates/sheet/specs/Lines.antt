@@ -1,6 +1,6 @@
 -- The lines of a sheet (docs/RULES.md, "Run sheets"): a name, then its numbers, each behind a tab, then a line feed. What holds of
 -- one kind of line holds of all five, so everything here takes the kind. Assumes nothing.
-use Prim.Native.Nat.{ℕ, zero, suc, _+_, _*_}
+use Prim.Native.Nat.{ℕ, zero, suc}
 use mathlib.Core.Bool.{Bool, true, false, cond, _&&_}
 use mathlib.Core.List.{List, [], _∷_, _++_}
 use lib.ListN.{length, take, drop, replicate}
@@ -40,17 +40,17 @@ unfoldable pub joined : List (List ℕ) → List ℕ
 joined [] = []
 joined (l ∷ ls) = l ++ joined ls
 
--- a character put before the first line
-abbrev pub before : ℕ → List (List ℕ) → List (List ℕ)
-before c [] = (c ∷ []) ∷ []
-before c (l ∷ ls) = (c ∷ l) ∷ ls
+-- a character put in front of the first line's own; a line by itself where there is none
+abbrev pub inFront : ℕ → List (List ℕ) → List (List ℕ)
+inFront c [] = (c ∷ []) ∷ []
+inFront c (l ∷ ls) = (c ∷ l) ∷ ls
 
 -- A text in lines, each with the line feed that ends it; what follows the last line feed is a line too, where there is anything.
 unfoldable pub lines : List ℕ → List (List ℕ)
 lines [] = []
-lines (c ∷ cs) = cond (eqb c lineFeed) ((c ∷ []) ∷ lines cs) (before c (lines cs))
+lines (c ∷ cs) = cond (eqb c lineFeed) ((c ∷ []) ∷ lines cs) (inFront c (lines cs))
 
--- ---- reading a line
+-- ---- reading a line: from here on nothing need be believed, since reading is pinned to writing (crates/sheet_claims)
 
 -- a mark that stands for any digit: #
 abbrev pub anyDigit : ℕ

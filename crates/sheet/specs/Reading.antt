@@ -1,8 +1,8 @@
 -- Reading a sheet: from its lines, stage by stage; each stage takes lines while they are its own, and the first line that is left over
 -- is refused. That this is the inverse of `text`, and that the refused line is the first that no sheet has, is proved
 -- (crates/sheet_claims), so it need not be believed. Assumes nothing.
-use Prim.Native.Nat.{ℕ, zero, suc, _+_, _-_, _*_, _/_, _%_}
-use mathlib.Core.Bool.{Bool, true, false, not, cond, _&&_}
+use Prim.Native.Nat.{ℕ, zero, suc, _+_, _-_, _/_, _%_}
+use mathlib.Core.Bool.{Bool, not, cond, _&&_}
 use mathlib.Core.List.{List, [], _∷_, _++_}
 use lib.ListN.{length, getD, take, drop}
 use lib.Dec.{eqb, leb}
@@ -38,12 +38,13 @@ pageCount least [] = 0
 pageCount least (l ∷ ls) =
     cond (isLine PageLine l && leb least (frameOf (value PageLine 0 l))) (suc (pageCount (suc (frameOf (value PageLine 0 l))) ls)) 0
 
--- the first numbers of n lines of a kind, four for an instruction
+-- all the numbers of these lines of a kind, one behind the other
 unfoldable pub numbers : Line → List (List ℕ) → List ℕ
 numbers kind [] = []
 numbers kind (l ∷ ls) = values kind l ++ numbers kind ls
 
--- ---- words
+-- ---- words: the pages' addresses are walked 8 by 8, and the next line is taken where it is this address's. A line that is out of order, off
+-- its 8, on no page or 0 is none's, and left over.
 
 -- the line gives a value, not 0, to this address
 unfoldable pub isWord : ℕ → List ℕ → Bool

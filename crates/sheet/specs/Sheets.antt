@@ -1,5 +1,5 @@
--- A saved run and its sheet (docs/RULES.md, "Run sheets"). `text` is what a reader must believe; that reading is its inverse is
--- proved (crates/sheet_claims). Assumes nothing.
+-- A saved run and its sheet (docs/RULES.md, "Run sheets"). This file, and the writing halves of Digits and Lines, are what a reader must
+-- believe; that reading is the inverse of `text` is proved (crates/sheet_claims). Assumes nothing.
 use Prim.Native.Nat.{ℕ, zero, suc, _+_, _*_, _/_, _%_, _^_, _<_, _≤_}
 use mathlib.Core.Path.{_≡_}
 use mathlib.Core.Bool.{cond}
@@ -8,7 +8,7 @@ use lib.ListN.{length, getD, take, drop}
 use lib.Dec.{eqb, leb}
 use Rattle.memory.specs.Pages.{pageBytes, pageOf}
 use Rattle.sheet.specs.Digits.{Below}
-use Rattle.sheet.specs.Lines.{line, joined}
+use Rattle.sheet.specs.Lines.{fieldCount, line, joined}
 use Rattle.sheet.specs.declared.line.Line.the-variants.{Sheet, State as StateLine, Page as PageLine, Word, Do}
 
 -- ---- a saved run
@@ -18,7 +18,7 @@ pub record Page : Type 0 where
   pub entry : ℕ
   pub bytes : List ℕ
 
--- the ten fields of a state, the pages, and four words for each instruction
+-- The ten fields of a state, the pages, and the instructions, four words each. What `word` lines hold is in the pages' bytes.
 pub record Saved : Type 0 where
   pub state : List ℕ
   pub pages : List Page
@@ -46,7 +46,7 @@ WholePages (p ∷ ps) = WholePage p × WholePages ps
 -- A run that has a sheet: ten fields, pages ascending, four words to each instruction. Nothing else is asked: a run that is refused
 -- (a kind 0, a 17th page, a state out of range) has a sheet too.
 pub record Sheeted (s : Saved) : Type 0 where
-  pub fields : length (s .state) ≡ 10
+  pub fields : length (s .state) ≡ fieldCount StateLine
   pub state : Below (2 ^ 64) (s .state)
   pub ascending : Ascending 0 (s .pages)
   pub pages : WholePages (s .pages)

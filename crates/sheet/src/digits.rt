@@ -5,10 +5,10 @@ ghost use lib.ListN.{length, take, drop};
 ghost use Rattle.sheet.specs.Digits.{digits as digitCount, digit as digitOf, isDigit, digitValue as digitValueOf, valueOf};
 
 // How many digits every number has.
-pub const DIGITS: usize = 16;
+pub(crate) const DIGITS: usize = 16;
 
 // Whether a character is a digit, 0 to 9 or a to f.
-pub fn is_digit(c: u8) -> bool
+pub(crate) fn is_digit(c: u8) -> bool
     ensures { λ r. ⌜ r ≡ isDigit c ⌝ }
 {
     if c < 48 {
@@ -32,7 +32,7 @@ fn digit_value(c: u8) -> u64
 }
 
 // The digit for 0 to 15.
-pub fn digit(d: u64) -> u8
+pub(crate) fn digit(d: u64) -> u8
     requires { ⌜ d < 16 ⌝ }
     ensures { λ r. ⌜ r ≡ digitOf d ⌝ }
 {

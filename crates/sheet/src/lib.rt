@@ -5,3 +5,12 @@ mod put;
 
 pub use digits::number;
 pub use line::Line;
+
+// The newest version of a sheet.
+pub const VERSION: u64 = 1;
+
+// How many fields a state has.
+pub const FIELDS: usize = 10;
+
+// How many values of 8 bytes a page has.
+pub const SLOTS: usize = 512;

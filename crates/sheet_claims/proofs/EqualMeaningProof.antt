@@ -6,7 +6,9 @@ use mathlib.Core.Path.{_≡_, refl, sym, ap, ap₂}
 use native.Mathlib.Omega.{arith}
 use Rattle.memory.specs.Extends.{HoldsPages}
 use Rattle.sheet.specs.Sheets.{Page, frameOf, Ascending, pagesOf, ascended, savedOf, text}
-use Rattle.sheet_claims.specs.EqualMeaning.{EqualText}
+use Rattle.sheet_claims.specs.EqualMeaning.{EqualText, EqualWrites}
+use Rattle.replay.specs.Run.{check}
+use Rattle.sheet_write.specs.Writes.{writes}
 use Rattle.sheet_claims.proofs.LentPages.{lent-held, lent-ascending}
 use Rattle.sheet_claims.proofs.Ordered.{Every, every-map, every-mem, every-ascended, mem-ascended, ascending-every}
 
@@ -63,3 +65,8 @@ equal-text state words pages₁ bytes₁ pages₂ bytes₂ valid₁ valid₂ the
     ap (λ (ps : List Page). text (record { state = state; pages = ps; words = words }))
     (same-pages 0 (ascended (pagesOf pages₁ bytes₁)) (ascended (pagesOf pages₂ bytes₂)) (lent-ascending pages₁ bytes₁ valid₁) (lent-ascending pages₂ bytes₂ valid₂)
     (held-ascended pages₁ bytes₁ pages₂ bytes₂ there) (held-ascended pages₂ bytes₂ pages₁ bytes₁ back))
+
+pub equal-writes : EqualWrites
+unfolding writes check
+equal-writes state words pages₁ bytes₁ pages₂ bytes₂ out valid₁ valid₂ there back =
+    rw (valid₁, valid₂, equal-text state words pages₁ bytes₁ pages₂ bytes₂ valid₁ valid₂ there back)

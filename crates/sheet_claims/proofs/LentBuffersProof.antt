@@ -20,13 +20,14 @@ use Rattle.sheet.specs.Reading.{Parsed, sheet, noSheet, parsed}
 use Rattle.sheet.proofs.DigitLaws.{both}
 use Rattle.sheet.proofs.TestedLaws.{Passes, passes, passed, valid-list, list-valid}
 use Rattle.sheet_read.specs.Reads.{Buffers, Read, byTest, byText, tested, fits, filled, sizesOf, reads}
-use Rattle.sheet_read.specs.declared.read.Sizes.{Sizes}
-use Rattle.sheet_read.specs.declared.read.Reading.the-variants.{Done as ReadDone, TooLong as ReadTooLong}
+use Rattle.sheet_read.specs.declared.buffers.Sizes.{Sizes}
+use Rattle.sheet_read.specs.declared.buffers.Reading.the-variants.{Done as ReadDone, TooLong as ReadTooLong}
 use Rattle.sheet_write.specs.Writes.{Written, byTest as writtenByTest, goodState, printed, writes}
-use Rattle.sheet_write.specs.declared.write.Writing.the-variants.{Done as WriteDone, TooLong as WriteTooLong}
+use Rattle.sheet_write.specs.declared.text.Writing.the-variants.{Done as WriteDone, TooLong as WriteTooLong}
+use Rattle.sheet_claims.specs.RoundTrips.{SavedSheeted}
 use Rattle.sheet_claims.specs.LentBuffers.{WrittenRead, ReadWritten, ReadUntouched, WriteUntouched, readDone, writeDone}
 use Rattle.sheet_claims.proofs.RoundTripsProof.{reads-back, writes-back}
-use Rattle.sheet_claims.proofs.SavedLaws.{saved-sheeted, ascended-valid, saved-back}
+use Rattle.sheet_claims.proofs.SavedLaws.{lent-sheeted, ascended-valid, saved-back}
 
 -- what was laid at the front of a buffer is its front
 front : (out piece : List ℕ) (n : ℕ) → length piece ≡ n → take n (laid out 0 piece) ≡ piece
@@ -118,6 +119,13 @@ read-untouched t lent e = text-untouched (parsed t) lent e
 
 -- ---- what was written is read
 
+pub saved-sheeted : SavedSheeted
+unfolding goodState
+saved-sheeted state pages bytes words small-state small-pages small-bytes small-words e =
+    let has = passes pages (length bytes) (goodState state) (length words) e in
+    let ten : length state ≡ 10 = eqb-true (length state) 10 (both (eqb (length state) 10) (inRange (stateOf state)) (has .state) .0) in
+    lent-sheeted pages bytes (list-valid pages (length bytes) (has .list)) state words ten small-state small-pages small-bytes (has .whole) small-words
+
 -- the run, its pages ascending, passes the tests again
 again : (state pages bytes words : List ℕ) → Passes pages (length bytes) (goodState state) (length words) → tested (savedOf state pages bytes words) ≡ Passed
 unfolding tested savedOf goodState
@@ -132,13 +140,12 @@ again state pages bytes words h =
     })
 
 pub written-read : WrittenRead
-unfolding writes reads goodState
+unfolding writes reads
 written-read state pages bytes words out lent long small-state small-pages small-bytes small-words e =
     let s : Saved = savedOf state pages bytes words in
     let was = write-was (check pages (length bytes) (goodState state) (length words)) (text s) out long e in
     let has = passes pages (length bytes) (goodState state) (length words) (was .good) in
-    let ten : length state ≡ 10 = eqb-true (length state) 10 (both (eqb (length state) 10) (inRange (stateOf state)) (has .state) .0) in
-    let sheeted = saved-sheeted pages bytes (list-valid pages (length bytes) (has .list)) state words ten small-state small-pages small-bytes (has .whole) small-words in
+    let sheeted = saved-sheeted state pages bytes words small-state small-pages small-bytes small-words (was .good) in
     rw (was .left, front out (text s) long (was .whole-long), reads-back s sheeted, again state pages bytes words has)
 
 -- ---- what was read is written

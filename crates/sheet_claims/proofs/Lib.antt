@@ -1,13 +1,15 @@
 -- The theorems on run sheets, each of the type of that name in specs/, and what they stand on. All of it is said of lists of lines: of
 -- bytes only the laws on single lines speak (sheet's proofs/LineLaws).
 --
+--     WorkedProof           worked
 --     RoundTripsProof       reads-back, writes-back
 --     FirstBadLineProof     from-one, before, not-here
---     EqualMeaningProof     equal-text
---     LentBuffersProof      written-read, read-written, read-untouched, write-untouched
+--     EqualMeaningProof     equal-text, equal-writes
+--     LentBuffersProof      saved-sheeted, written-read, read-written, read-untouched, write-untouched
 --     Promised              promised: all of them
---     SavedLaws             saved-sheeted, ascended-valid, saved-back: from the lent buffers to a sheet and back
+--     SavedLaws             lent-sheeted, ascended-valid, saved-back: from the lent buffers to a sheet and back
 
+pub mod WorkedProof
 pub mod RoundTripsProof
 pub mod FirstBadLineProof
 pub mod EqualMeaningProof

@@ -1,18 +1,22 @@
 -- Every claim on sheets is proved. Assumes nothing.
 use Rattle.sheet_claims.specs.Promises.{Promises}
+use Rattle.sheet_claims.proofs.WorkedProof.{worked}
 use Rattle.sheet_claims.proofs.RoundTripsProof.{reads-back, writes-back}
 use Rattle.sheet_claims.proofs.FirstBadLineProof.{from-one, before, not-here}
-use Rattle.sheet_claims.proofs.EqualMeaningProof.{equal-text}
-use Rattle.sheet_claims.proofs.LentBuffersProof.{written-read, read-written, read-untouched, write-untouched}
+use Rattle.sheet_claims.proofs.EqualMeaningProof.{equal-text, equal-writes}
+use Rattle.sheet_claims.proofs.LentBuffersProof.{saved-sheeted, written-read, read-written, read-untouched, write-untouched}
 
 pub promised : Promises
 promised = record {
+  worked = worked;
+  saved-sheeted = saved-sheeted;
   reads-back = reads-back;
   writes-back = writes-back;
   from-one = from-one;
   before = before;
   not-here = not-here;
   equal-text = equal-text;
+  equal-writes = equal-writes;
   written-read = written-read;
   read-written = read-written;
   read-untouched = read-untouched;

@@ -73,10 +73,10 @@ module _ (entries bytes : List ℕ) (is-valid : listing entries (length bytes) �
 
   -- ---- it has a sheet
 
-  pub saved-sheeted : (state words : List ℕ) → length state ≡ 10 → Below (2 ^ 64) state → Below (2 ^ 64) entries → Below 256 bytes → length words % 4 ≡ 0 → Below (2 ^ 64) words
+  pub lent-sheeted : (state words : List ℕ) → length state ≡ 10 → Below (2 ^ 64) state → Below (2 ^ 64) entries → Below 256 bytes → length words % 4 ≡ 0 → Below (2 ^ 64) words
       → Sheeted (savedOf state entries bytes words)
   unfolding savedOf Below
-  saved-sheeted state words ten state-small entries-small bytes-small four words-small = record {
+  lent-sheeted state words ten state-small entries-small bytes-small four words-small = record {
     fields = ten;
     state = state-small;
     ascending = lent-ascending entries bytes is-valid;

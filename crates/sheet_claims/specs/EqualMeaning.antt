@@ -7,6 +7,7 @@ use Rattle.memory.specs.Pages.{listing}
 use Rattle.memory.specs.Extends.{HoldsPages}
 use Rattle.memory.specs.declared.pages.Listing.the-variants.{Valid}
 use Rattle.sheet.specs.Sheets.{savedOf, text}
+use Rattle.sheet_write.specs.Writes.{writes}
 
 -- equal states and instructions, and valid page lists that hold the same pages, alike in address, kind and bytes, in any order
 abbrev pub EqualText : Type 0
@@ -17,3 +18,13 @@ EqualText =
     → HoldsPages pages₁ bytes₁ pages₂ bytes₂
     → HoldsPages pages₂ bytes₂ pages₁ bytes₁
     → text (savedOf state pages₁ bytes₁ words) ≡ text (savedOf state pages₂ bytes₂ words)
+
+-- and so is what a write answers and leaves, into any buffer
+abbrev pub EqualWrites : Type 0
+EqualWrites =
+    (state words pages₁ bytes₁ pages₂ bytes₂ out : List ℕ)
+    → listing pages₁ (length bytes₁) ≡ Valid
+    → listing pages₂ (length bytes₂) ≡ Valid
+    → HoldsPages pages₁ bytes₁ pages₂ bytes₂
+    → HoldsPages pages₂ bytes₂ pages₁ bytes₁
+    → writes state pages₁ bytes₁ words out ≡ writes state pages₂ bytes₂ words out

@@ -17,6 +17,7 @@ FromOne = (t : List ℕ) (n : ℕ) → parsed t ≡ noSheet n → 1 ≤ n
 abbrev pub Before : Type 0
 Before = (t : List ℕ) (n : ℕ) → parsed t ≡ noSheet n → (s : Saved) × Sheeted s × (take (n - 1) (lines (text s)) ≡ take (n - 1) (lines t))
 
--- no sheet begins with the lines up to it; where the text has fewer lines, no sheet has just these
+-- No sheet begins with the lines up to it. Where the text has only n - 1 lines, `take n` is all of them: no sheet is just these, the n-th is
+-- missing. With `Before` no other number is possible.
 abbrev pub NotHere : Type 0
 NotHere = (t : List ℕ) (n : ℕ) → parsed t ≡ noSheet n → (s : Saved) → Sheeted s → take n (lines (text s)) ≡ take n (lines t) → ⊥

@@ -5,18 +5,19 @@ use mathlib.Core.Path.{_≡_}
 use mathlib.Core.Bool.{Bool, true, false}
 use mathlib.Core.List.{List}
 use lib.ListN.{take}
-use Rattle.replay.specs.declared.steps.Tested.the-variants.{Passed}
 use Rattle.sheet.specs.Digits.{Below}
+use Rattle.sheet.specs.Lines.{fieldCount}
+use Rattle.sheet.specs.declared.line.Line.the-variants.{State as StateLine}
 use Rattle.sheet.specs.Sheets.{savedOf}
-use Rattle.sheet_read.specs.Reads.{Buffers, byTest, reads}
-use Rattle.sheet_read.specs.declared.read.Sizes.{Sizes}
-use Rattle.sheet_read.specs.declared.read.Reading.{Reading}
-use Rattle.sheet_read.specs.declared.read.Reading.the-variants.{Done as ReadDone, NoSheet, Refused as ReadRefused, TooLong as ReadTooLong}
+use Rattle.sheet_read.specs.Reads.{Buffers, delivered, reads}
+use Rattle.sheet_read.specs.declared.buffers.Sizes.{Sizes}
+use Rattle.sheet_read.specs.declared.buffers.Reading.{Reading}
+use Rattle.sheet_read.specs.declared.buffers.Reading.the-variants.{Done as ReadDone, NoSheet, Refused as ReadRefused, TooLong as ReadTooLong}
 use Rattle.sheet_write.specs.Writes.{printed, writes}
-use Rattle.sheet_write.specs.declared.write.Writing.{Writing}
-use Rattle.sheet_write.specs.declared.write.Writing.the-variants.{Done as WriteDone, Refused as WriteRefused, TooLong as WriteTooLong}
+use Rattle.sheet_write.specs.declared.text.Writing.{Writing}
+use Rattle.sheet_write.specs.declared.text.Writing.the-variants.{Done as WriteDone, Refused as WriteRefused, TooLong as WriteTooLong}
 
--- Whatever a write was done of, reading the text returns that run, its pages ascending: into every buffer that has room, and with the
+-- Of every write that is done: reading the text returns the run, its pages ascending: into every buffer that has room, and with the
 -- sizes that it needs where one has not.
 abbrev pub WrittenRead : Type 0
 WrittenRead =
@@ -26,16 +27,16 @@ WrittenRead =
     → Below 256 bytes
     → Below (2 ^ 64) words
     → (writes state pages bytes words out) .answer ≡ WriteDone long
-    → reads (take long ((writes state pages bytes words out) .text)) lent ≡ byTest Passed (savedOf state pages bytes words) lent
+    → reads (take long ((writes state pages bytes words out) .text)) lent ≡ delivered (savedOf state pages bytes words) lent
 
--- Whatever a read was done of, writing what the buffers then hold returns the text: into a buffer that has room, and with its length
+-- Of every read that is done: writing what the buffers then hold returns the text: into a buffer that has room, and with its length
 -- where it has not.
 abbrev pub ReadWritten : Type 0
 ReadWritten =
     (t out : List ℕ) (lent : Buffers) (sizes : Sizes)
     → (reads t lent) .answer ≡ ReadDone sizes
     → writes
-    (take 10 ((reads t lent) .buffers .state))
+    (take (fieldCount StateLine) ((reads t lent) .buffers .state))
     (take (sizes .pages) ((reads t lent) .buffers .pages))
     (take (sizes .bytes) ((reads t lent) .buffers .bytes))
     (take (sizes .words) ((reads t lent) .buffers .words))

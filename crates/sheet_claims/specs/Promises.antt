@@ -1,17 +1,21 @@
 -- Every claim on sheets in one place. The theorem `promised` (proofs/Promised.antt) is of the type here, so a claim that lost its proof
 -- would be an error. Assumes nothing.
-use Rattle.sheet_claims.specs.RoundTrips.{ReadsBack, WritesBack}
+use Rattle.sheet_claims.specs.Worked.{Worked}
+use Rattle.sheet_claims.specs.RoundTrips.{SavedSheeted, ReadsBack, WritesBack}
 use Rattle.sheet_claims.specs.FirstBadLine.{FromOne, Before, NotHere}
-use Rattle.sheet_claims.specs.EqualMeaning.{EqualText}
+use Rattle.sheet_claims.specs.EqualMeaning.{EqualText, EqualWrites}
 use Rattle.sheet_claims.specs.LentBuffers.{WrittenRead, ReadWritten, ReadUntouched, WriteUntouched}
 
 pub record Promises : Type 0 where
+  pub worked : Worked
+  pub saved-sheeted : SavedSheeted
   pub reads-back : ReadsBack
   pub writes-back : WritesBack
   pub from-one : FromOne
   pub before : Before
   pub not-here : NotHere
   pub equal-text : EqualText
+  pub equal-writes : EqualWrites
   pub written-read : WrittenRead
   pub read-written : ReadWritten
   pub read-untouched : ReadUntouched

@@ -24,8 +24,8 @@ use Rattle.sheet.proofs.DigitLaws.{both}
 use Rattle.sheet.proofs.TestedLaws.{passes, too-many}
 use Rattle.sheet_read.specs.Reads.{Buffers, untouched, tested, sizesOf, fits, filled, byTest, reads}
 use Rattle.sheet_read.specs.Scan.{stateAt, bodyAt, wordsAt, stepsAt, entriesIn, savedAt, sizesAt, roomFor, Shaped}
-use Rattle.sheet_read.specs.declared.read.Sizes.{Sizes}
-use Rattle.sheet_read.specs.declared.read.Reading.the-variants.{Done, NoSheet, Refused, TooLong}
+use Rattle.sheet_read.specs.declared.buffers.Sizes.{Sizes}
+use Rattle.sheet_read.specs.declared.buffers.Reading.the-variants.{Done, NoSheet, Refused, TooLong}
 use Rattle.sheet_read.specs.declared.scan.Shape.{Shape}
 use Rattle.sheet_read.proofs.Leads.{numbers-length}
 use Rattle.sheet_read.proofs.Pages.{entries-length, entries-kept, bytes-length}

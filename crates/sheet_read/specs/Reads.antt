@@ -5,7 +5,6 @@ use mathlib.Core.List.{List}
 use lib.ListN.{length}
 use lib.Dec.{leb}
 use Rattle.processor.specs.State.{inRange}
-use Rattle.processor.specs.declared.answer.Refusal.{Refusal}
 use Rattle.replay.specs.Layout.{stateOf}
 use Rattle.replay.specs.Run.{check}
 use Rattle.replay.specs.declared.steps.Tested.{Tested}
@@ -13,9 +12,9 @@ use Rattle.replay.specs.declared.steps.Tested.the-variants.{Passed, Failed}
 use Rattle.sheet.specs.Sheets.{Saved, entriesOf, bytesOf}
 use Rattle.sheet.specs.Reading.{Parsed, sheet, noSheet, parsed}
 use Rattle.sheet.specs.Buffers.{laid}
-use Rattle.sheet_read.specs.declared.read.Sizes.{Sizes}
-use Rattle.sheet_read.specs.declared.read.Reading.{Reading}
-use Rattle.sheet_read.specs.declared.read.Reading.the-variants.{Done, NoSheet, Refused, TooLong}
+use Rattle.sheet_read.specs.declared.buffers.Sizes.{Sizes}
+use Rattle.sheet_read.specs.declared.buffers.Reading.{Reading}
+use Rattle.sheet_read.specs.declared.buffers.Reading.the-variants.{Done, NoSheet, Refused, TooLong}
 
 -- what is read into
 pub record Buffers : Type 0 where
@@ -24,7 +23,7 @@ pub record Buffers : Type 0 where
   pub bytes : List ℕ
   pub words : List ℕ
 
--- the answer, and what the buffers hold
+-- the answer, and what the buffers hold. `Reading` is the type of answers that src/ declares, not the file Reading of crates/sheet/specs
 pub record Read : Type 0 where
   pub answer : Reading
   pub buffers : Buffers
@@ -58,8 +57,12 @@ filled s lent =
       words = laid (lent .words) 0 (s .words);
     }
 
+-- a run that passed its tests: into the buffers, or with the sizes that it needs
+abbrev pub delivered : Saved → Buffers → Read
+delivered s lent = cond (fits s lent) (record { answer = Done (sizesOf s); buffers = filled s lent }) (untouched (TooLong (sizesOf s)) lent)
+
 abbrev pub byTest : Tested → Saved → Buffers → Read
-byTest Passed s lent = cond (fits s lent) (record { answer = Done (sizesOf s); buffers = filled s lent }) (untouched (TooLong (sizesOf s)) lent)
+byTest Passed s lent = delivered s lent
 byTest (Failed refusal) s lent = untouched (Refused refusal) lent
 
 abbrev pub byText : Parsed → Buffers → Read

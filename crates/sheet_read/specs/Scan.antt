@@ -12,7 +12,7 @@ use Rattle.sheet.specs.Sheets.{Saved, slots}
 use Rattle.sheet.specs.Reading.{next, isHead, numbers, slotValue, pastSlot, pastSlots, pagesIn, sheet, noSheet, parsed}
 use Rattle.sheet.specs.declared.line.Line.{Line}
 use Rattle.sheet.specs.declared.line.Line.the-variants.{State as StateLine, Page as PageLine, Do}
-use Rattle.sheet_read.specs.declared.read.Sizes.{Sizes}
+use Rattle.sheet_read.specs.declared.buffers.Sizes.{Sizes}
 use Rattle.sheet_read.specs.declared.scan.Shape.{Shape}
 use Rattle.sheet_read.specs.declared.scan.Scan.{Scan}
 use Rattle.sheet_read.specs.declared.scan.Scan.the-variants.{Sheet, NoSheet}

@@ -13,13 +13,13 @@ ghost use Rattle.sheet_read.specs.Scan.{Lead, slotCount, bodyAt, wordsAt
 use crate::scan::BODY;
 use crate::scan::ENTRY_AT;
 use crate::scan::PAGE_LINE;
-use crate::scan::SLOTS;
 use crate::scan::WORD_LINE;
 use crate::scan::line_count;
 use crate::scan::page_of;
 use crate::scan::slot_value;
 use memory::PAGE_BYTES;
 use sheet::Line;
+use sheet::SLOTS;
 use sheet::number;
 
 // The numbers of a line.
@@ -74,7 +74,7 @@ fn fill_page(text: &[u8], from: usize, entry: u64, bytes: &mut [u8], at: usize) 
     let mut n: usize = 0;
     let mut here = from;
     let mut slot: u64 = 0;
-    while slot < SLOTS {
+    while slot < SLOTS as u64 {
         let value = slot_value(text, here, base + 8 * slot);
         put_value(value, bytes, at + 8 * (slot as usize));
         let found = line_count(value);

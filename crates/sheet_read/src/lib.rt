@@ -1,7 +1,8 @@
 // Reading a run sheet into lent buffers.
+mod buffers;
 mod fill;
-pub mod read;
 mod scan;
 
-pub use read::Reading;
-pub use read::Sizes;
+pub use buffers::Reading;
+pub use buffers::Sizes;
+pub use buffers::read;

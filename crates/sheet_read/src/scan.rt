@@ -10,10 +10,9 @@ ghost use Rattle.sheet.specs.declared.line.Line.the-variants.{Page as PageLine}
 ghost use Rattle.sheet_read.specs.Scan.{Lead, lineCount, slotCount, wordCount, bodyAt, wordsAt, entriesIn, Headed, Scanned};
 use memory::PAGE_BYTES;
 use sheet::Line;
+use sheet::SLOTS;
+use sheet::VERSION;
 use sheet::number;
-
-// The newest version.
-const VERSION: u64 = 1;
 
 // Where the state stands, behind the line of the version; and the lines after both.
 pub const STATE: usize = 24;
@@ -35,9 +34,6 @@ pub const ENTRY_AT: usize = 6;
 const ADDRESS_AT: usize = 6;
 
 const VALUE_AT: usize = 24;
-
-// How many values of 8 bytes a page has.
-pub const SLOTS: u64 = 512;
 
 // How many page, word and do lines a sheet has.
 pub struct Shape {
@@ -108,7 +104,7 @@ fn words_of_page(text: &[u8], at: usize, entry: u64) -> usize
     let mut n: usize = 0;
     let mut here = at;
     let mut slot: u64 = 0;
-    while slot < SLOTS {
+    while slot < SLOTS as u64 {
         let found = line_count(slot_value(text, here, base + 8 * slot));
         n += found;
         here += WORD_LINE * found;

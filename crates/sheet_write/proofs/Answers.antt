@@ -1,7 +1,6 @@
 -- The answers of writing, from what the code found. Assumes nothing.
 use Prim.Native.Nat.{ℕ, _<_, _≤_}
-use mathlib.Core.Path.{_≡_, sym}
-use mathlib.Core.Bool.{Bool}
+use mathlib.Core.Path.{_≡_}
 use mathlib.Core.List.{List}
 use lib.ListN.{length}
 use borrow.Author.Tests.{le-leb, lt-leb}
@@ -11,7 +10,7 @@ use Rattle.replay.specs.declared.steps.Tested.the-variants.{Passed, Failed}
 use Rattle.sheet.specs.Buffers.{laid}
 use Rattle.sheet.specs.Sheets.{text, savedOf}
 use Rattle.sheet_write.specs.Writes.{Written, goodState, printed, writes}
-use Rattle.sheet_write.specs.declared.write.Writing.the-variants.{Done, Refused, TooLong}
+use Rattle.sheet_write.specs.declared.text.Writing.the-variants.{Done, Refused, TooLong}
 
 module _ (whole out : List ℕ) (long : ℕ) (long-is : long ≡ length whole) where
   pub too-long : length out < long → _≡_ {A = Written} (record { answer = TooLong long; text = out }) (printed whole out)

@@ -2,23 +2,23 @@
 use Prim.Native.Nat.{ℕ, zero, suc, _+_, _-_, _*_, _/_, _≤_}
 use mathlib.Core.Path.{_≡_, refl, sym, _∙_, ap, ap₂}
 use mathlib.Core.Bool.{Bool, true, false}
-use mathlib.Core.List.{List, [], _∷_, _++_}
+use mathlib.Core.List.{List, [], _∷_}
 use mathlib.Core.Logic.{⊎-elim}
 use native.Mathlib.Omega.{arith}
-use lib.ListN.{length, getD, take, drop, length-append, length-drop}
-use lib.Seq.{length-take-le, drop-drop, take-nil, drop-nil}
+use lib.ListN.{length, take, drop, length-append, length-drop}
+use lib.Seq.{length-take-le, drop-drop, take-nil}
 use lib.Dec.{eqb}
 use Rattle.memory.specs.Pages.{pageBytes, pageOf}
-use Rattle.sheet.specs.Lines.{line, joined, width}
-use Rattle.sheet.specs.Sheets.{Page, frameOf, little, wordLine, wordLines, pageWords, slots, doLines, pagesOf, insert, ascended, text, savedOf}
+use Rattle.sheet.specs.Lines.{line, joined}
+use Rattle.sheet.specs.Sheets.{Page, frameOf, little, wordLine, wordLines, slots, doLines, pagesOf, insert, ascended, text, savedOf}
 use Rattle.sheet.specs.declared.line.Line.the-variants.{Sheet, State as StateLine, Page as PageLine, Word, Do}
 use Rattle.sheet.proofs.LineLaws.{line-length}
 use Rattle.sheet_write.specs.Values.{lineCount, nonzeros}
 use Rattle.sheet_write.specs.Laying.{linesOf, allLines, textLength}
 use Rattle.sheet_write.specs.declared.lay.Pass.{Pass}
 use Rattle.sheet_write.specs.declared.lay.Pass.the-variants.{Entries, Values}
-use Rattle.sheet_write.proofs.Ascending.{le-or-lt, before, past, inOrder}
-use Rattle.sheet_write.proofs.Lays.{Begins, joined-append, joined-one}
+use Rattle.sheet_write.proofs.Ascending.{le-or-lt, before, past}
+use Rattle.sheet_write.proofs.Lays.{Begins, joined-one}
 use Rattle.sheet_write.proofs.Rests.{words-suc, steps-suc, pages-cons}
 use Rattle.sheet_write.proofs.Texts.{sheet-first, state-first, entries-first, values-first, steps-first}
 use Rattle.sheet_write.proofs.ValueLaws.{nonzeros-suc}

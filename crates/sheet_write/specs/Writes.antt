@@ -5,15 +5,16 @@ use mathlib.Core.List.{List}
 use lib.ListN.{length}
 use lib.Dec.{eqb, leb}
 use Rattle.processor.specs.State.{inRange}
-use Rattle.processor.specs.declared.answer.Refusal.{Refusal}
 use Rattle.replay.specs.Layout.{stateOf}
 use Rattle.replay.specs.Run.{check}
 use Rattle.replay.specs.declared.steps.Tested.{Tested}
 use Rattle.replay.specs.declared.steps.Tested.the-variants.{Passed, Failed}
+use Rattle.sheet.specs.Lines.{fieldCount}
+use Rattle.sheet.specs.declared.line.Line.the-variants.{State as StateLine}
 use Rattle.sheet.specs.Sheets.{savedOf, text}
 use Rattle.sheet.specs.Buffers.{laid}
-use Rattle.sheet_write.specs.declared.write.Writing.{Writing}
-use Rattle.sheet_write.specs.declared.write.Writing.the-variants.{Done, Refused, TooLong}
+use Rattle.sheet_write.specs.declared.text.Writing.{Writing}
+use Rattle.sheet_write.specs.declared.text.Writing.the-variants.{Done, Refused, TooLong}
 
 -- the answer, and what the text's buffer holds
 pub record Written : Type 0 where
@@ -22,7 +23,7 @@ pub record Written : Type 0 where
 
 -- a state of ten fields, each in its range
 unfoldable pub goodState : List ℕ → Bool
-goodState state = eqb (length state) 10 && inRange (stateOf state)
+goodState state = eqb (length state) (fieldCount StateLine) && inRange (stateOf state)
 
 -- a text at the front of its buffer, where it fits; what lies past it stays
 unfoldable pub printed : List ℕ → List ℕ → Written

@@ -1,7 +1,8 @@
 // Writing a run as a sheet into a lent buffer.
 mod lay;
 mod order;
+mod text;
 mod values;
-pub mod write;
 
-pub use write::Writing;
+pub use text::Writing;
+pub use text::write;

@@ -1,6 +1,5 @@
 -- `value_at` meets its contract. The invariant is `Built`: the value holds the bytes from `left` on, and is small enough for one more. Assumes nothing.
 use Prim.Native.Nat.{_+_, _-_, _^_, _<_}
-use mathlib.Core.Path.{_∙_}
 use native.Mathlib.Omega.{arith}
 use borrow.Author.Needs.{needs}
 use Rattle.sheet_write.proofs.ValueLaws.{Built, room, built-none, built-all, built-more}

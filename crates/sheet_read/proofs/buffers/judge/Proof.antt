@@ -1,0 +1,65 @@
+-- `judge` meets its contract: the tests are those of a run, on the entries that were copied. Assumes nothing.
+use Prim.Native.Nat.{ℕ, _*_}
+use mathlib.Core.Path.{_≡_, sym, _∙_, ap, ap₂}
+use mathlib.Core.Bool.{Bool}
+use mathlib.Core.List.{List}
+use lib.ListN.{length, take, drop}
+use borrow.Author.Needs.{needs}
+use Rattle.memory.specs.Pages.{pageBytes}
+use Rattle.replay.specs.Run.{check}
+use Rattle.sheet_read.specs.Scan.{bodyAt, entriesIn}
+use Rattle.sheet_read.proofs.Saved.{laid-front, pages-long, too-many-pages, tested-is}
+use Rattle.sheet_read.proofs.buffers.judge.Statement.{statement}
+use Rattle.sheet_read.proofs.buffers.judge.Tie as tie
+
+returns : tie.Need-returns
+returns c = sym (too-many-pages _ _ (c .before .before .pre) (c .if1 .taken))
+
+good-state-requires : tie.Need-good-state-requires
+good-state-requires c κs = search needs
+
+slice-aggregate-fill-lines : tie.Need-slice-aggregate-fill-lines
+slice-aggregate-fill-lines c = search needs
+
+fill-lines-requires : tie.Need-fill-lines-requires
+fill-lines-requires c κs = search needs
+
+array-share-prefix-entries : tie.Need-array-share-prefix-entries
+array-share-prefix-entries c = search needs
+
+abbrev start : tie.After-entries3 → tie.Start
+start c = c .before .before .before .before .before .before .before
+
+listed : (c : tie.After-entries3) → take (start c .args .shape .pages) (c .before .before .fill-lines .last .1 .1 .1 .1 .0) ≡ entriesIn (start c .args .shape .pages) (drop bodyAt (start c .args .text .now))
+unfolding entriesIn
+listed c = ap (take (start c .args .shape .pages)) (c .before .before .fill-lines .ensures) ∙ laid-front _ _ (start c .args .shape .pages) (pages-long _ _ (start c .pre))
+
+slice-aggregate-check : tie.Need-slice-aggregate-check
+slice-aggregate-check c = sym (ap length (listed c) ∙ pages-long _ _ (start c .pre))
+
+mul-check : tie.Need-mul-check
+mul-check c = search needs
+
+mul-check-2 : tie.Need-mul-check-2
+mul-check-2 c = search needs
+
+check-requires : tie.Need-check-requires
+check-requires c κs = search needs
+
+returns-2 : tie.Need-returns-2
+returns-2 c = c .check .ensures ∙ (ap₂ (λ (entries : List ℕ) (good : Bool). check entries (pageBytes * start (c .before .before) .args .shape .pages) good (4 * start (c .before .before) .args .shape .steps)) (listed (c .before .before)) (c .before .before .before .before .before .before .good-state .ensures) ∙ sym (tested-is _ _ (start (c .before .before) .pre)))
+
+pub judge-spec : {M : Type 1} → statement M
+judge-spec =
+    tie.close
+    (tie.spec
+    returns
+    good-state-requires
+    slice-aggregate-fill-lines
+    fill-lines-requires
+    array-share-prefix-entries
+    slice-aggregate-check
+    mul-check
+    mul-check-2
+    check-requires
+    returns-2)

@@ -1,0 +1,66 @@
+-- `load` meets its contract: the test is that of the definition, and every buffer is filled where it holds. Assumes nothing.
+use mathlib.Core.Path.{_≡_, sym, _∙_}
+use mathlib.Core.Bool.{true}
+use lib.ListN.{length}
+use borrow.Author.Needs.{needs}
+use borrow.Author.Tests.{not-true, not-false}
+use Rattle.sheet_read.specs.Reads.{Buffers}
+use Rattle.sheet_read.specs.Scan.{sizesAt, roomFor}
+use Rattle.sheet_read.proofs.Saved.{room-parts, too-long, loaded}
+use Rattle.sheet_read.proofs.buffers.load.Statement.{statement}
+use Rattle.sheet_read.proofs.buffers.load.Tie as tie
+
+mul-fits : tie.Need-mul-fits
+mul-fits c = search needs
+
+mul-fits-2 : tie.Need-mul-fits-2
+mul-fits-2 c = search needs
+
+fits-requires : tie.Need-fits-requires
+fits-requires c κs = search needs
+
+abbrev start : tie.After-fits2 → tie.Start
+start c = c .before .before .before .before .before .before .before .before
+
+-- the buffers as they were lent
+abbrev lent : tie.After-fits2 → Buffers
+lent c = record { state = start c .args .state .now; pages = start c .args .pages .now; bytes = start c .args .bytes .now; words = start c .args .words .now }
+
+returns : tie.Need-returns
+returns c = sym (too-long _ _ (start (c .before) .pre .0) (lent (c .before)) (sym (c .before .fits2 .ensures) ∙ not-true _ (c .if1 .taken)))
+
+room : (c : tie.Else1) → roomFor (sizesAt (start (c .before) .args .shape)) (length (lent (c .before) .state)) (length (lent (c .before) .pages)) (length (lent (c .before) .bytes)) (length (lent (c .before) .words)) ≡ true
+room c = sym (c .before .fits2 .ensures) ∙ not-false _ (c .if1 .left)
+
+fill-all-requires : tie.Need-fill-all-requires
+fill-all-requires c κs = let parts = room-parts _ _ _ _ _ (room (c .before .before .before .before)) in (start (c .before .before .before .before .before) .pre .0, parts .0, parts .1, parts .2, parts .3)
+
+same-length : tie.Need-same-length
+same-length c = search needs
+
+same-length-2 : tie.Need-same-length-2
+same-length-2 c = search needs
+
+same-length-3 : tie.Need-same-length-3
+same-length-3 c = search needs
+
+same-length-4 : tie.Need-same-length-4
+same-length-4 c = search needs
+
+returns-2 : tie.Need-returns-2
+returns-2 c = sym (loaded _ _ (start (c .before .before .before .before .before .before .before .before .before .before .before .before .before .before) .pre .0) (lent (c .before .before .before .before .before .before .before .before .before .before .before .before .before .before)) (room (c .before .before .before .before .before .before .before .before .before .before .before .before .before)) _ (c .before .before .before .before .before .before .before .before .fill-all .ensures))
+
+pub load-spec : {M : Type 1} → statement M
+load-spec =
+    tie.close
+    (tie.spec
+    mul-fits
+    mul-fits-2
+    fits-requires
+    returns
+    fill-all-requires
+    same-length
+    same-length-2
+    same-length-3
+    same-length-4
+    returns-2)

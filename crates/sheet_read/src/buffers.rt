@@ -1,0 +1,151 @@
+// A sheet into lent buffers: the whole text is judged before anything is written.
+ghost use mathlib.Core.Path.{_≡_};
+ghost use Prim.Native.Nat.{_*_, _≤_};
+ghost use lib.ListN.{length, take, drop};
+ghost use Rattle.memory.specs.Pages.{pageBytes, pageLimit};
+ghost use Rattle.processor.specs.State.{inRange};
+ghost use Rattle.replay.specs.Layout.{stateOf};
+ghost use Rattle.replay.specs.declared.steps.Tested.the-variants.{Passed};
+ghost use Rattle.sheet.specs.Lines.{lines};
+ghost use Rattle.sheet.specs.Reading.{numbers};
+ghost use Rattle.sheet.specs.declared.line.Line.the-variants.{State as StateLine};
+ghost use Rattle.sheet_read.specs.Scan.{Lead, stateAt, savedAt, roomFor, Shaped};
+ghost use Rattle.sheet_read.specs.Reads.{tested, filled, byTest, reads};
+use crate::fill::fill_lines;
+use crate::fill::fill_pages;
+use crate::scan::BODY;
+use crate::scan::PAGE_LINE;
+use crate::scan::STATE;
+use crate::scan::Scan;
+use crate::scan::Shape;
+use crate::scan::WORD_LINE;
+use crate::scan::scan_sheet;
+use memory::PAGE_BYTES;
+use memory::PAGE_LIMIT;
+use processor::Refusal;
+use replay::Tested;
+use sheet::FIELDS;
+use sheet::Line;
+
+// How many pages, bytes and words a run has.
+pub struct Sizes {
+    pub pages: usize,
+    pub bytes: usize,
+    pub words: usize,
+}
+
+// What reading a text answers.
+pub enum Reading {
+    // The buffers hold the run.
+    Done(Sizes),
+    // The text is no sheet: the first line, from 1, that cannot begin or continue one.
+    NoSheet(usize),
+    // The run is refused before its first step.
+    Refused(Refusal),
+    // A buffer is too short; this is what the run takes.
+    TooLong(Sizes),
+}
+
+// Whether the state is in range.
+fn good_state(text: &[u8]) -> bool
+    requires { ⌜ Lead StateLine 1 (lines (drop stateAt (now text))) ⌝ }
+    ensures { λ r. ⌜ r ≡ inRange (stateOf (numbers StateLine (take 1 (lines (drop stateAt (now (text .entry))))))) ⌝ }
+{
+    let mut fields = [0u64; FIELDS];
+    fill_lines(Line::State, text, STATE, 1, &mut fields);
+    replay::state_of(&fields).in_range()
+}
+
+// The tests before a run: refusals 1, 2, 3, 4, 5 and 7. More pages than may be listed are not copied, and refused at once.
+fn judge(text: &[u8], shape: Shape) -> Tested
+    requires { ⌜ Shaped (now text) shape ⌝ }
+    ensures { λ r. ⌜ r ≡ tested (savedAt (now (text .entry)) shape) ⌝ }
+{
+    let pages = shape.pages;
+    if PAGE_LIMIT < pages {
+        return Tested::Failed(Refusal::Length);
+    }
+    let good = good_state(text);
+    let mut entries = [0u64; PAGE_LIMIT];
+    fill_lines(Line::Page, text, BODY, pages, &mut entries);
+    replay::check(&entries[..pages], PAGE_BYTES * pages, good, 4 * shape.steps)
+}
+
+// Whether every part fits its buffer, of these lengths.
+fn fits(sizes: Sizes, state: usize, pages: usize, bytes: usize, words: usize) -> bool
+    ensures { λ r. ⌜ r ≡ roomFor sizes state pages bytes words ⌝ }
+{
+    if state < FIELDS {
+        return false;
+    }
+    if pages < sizes.pages {
+        return false;
+    }
+    if bytes < sizes.bytes {
+        return false;
+    }
+    sizes.words <= words
+}
+
+// Every part to the front of its buffer.
+fn fill_all(
+    text: &[u8],
+    shape: Shape,
+    state: &mut [u64],
+    pages: &mut [u64],
+    bytes: &mut [u8],
+    words: &mut [u64],
+)
+    requires { ⌜ Shaped (now text) shape × (10 ≤ length (now state)) × (shape .pages ≤ length (now pages)) × (pageBytes * shape .pages ≤ length (now bytes)) × (4 * shape .steps ≤ length (now words)) ⌝ }
+    ensures { λ _. ⌜ record { state = now (state .exit); pages = now (pages .exit); bytes = now (bytes .exit); words = now (words .exit) } ≡ filled (savedAt (now (text .entry)) shape) (record { state = now (state .entry); pages = now (pages .entry); bytes = now (bytes .entry); words = now (words .entry) }) ⌝ }
+{
+    fill_lines(Line::State, text, STATE, 1, state);
+    fill_lines(Line::Page, text, BODY, shape.pages, pages);
+    fill_pages(text, shape.pages, bytes);
+    let at = BODY + PAGE_LINE * shape.pages + WORD_LINE * shape.words;
+    fill_lines(Line::Do, text, at, shape.steps, words);
+}
+
+// A run that passed its tests, where every part fits.
+fn load(
+    text: &[u8],
+    shape: Shape,
+    state: &mut [u64],
+    pages: &mut [u64],
+    bytes: &mut [u8],
+    words: &mut [u64],
+) -> Reading
+    requires { ⌜ Shaped (now text) shape × (shape .pages ≤ pageLimit) ⌝ }
+    ensures { λ r. ⌜ record { answer = r; buffers = record { state = now (state .exit); pages = now (pages .exit); bytes = now (bytes .exit); words = now (words .exit) } } ≡ byTest Passed (savedAt (now (text .entry)) shape) (record { state = now (state .entry); pages = now (pages .entry); bytes = now (bytes .entry); words = now (words .entry) }) ⌝ }
+{
+    let sizes = Sizes {
+        pages: shape.pages,
+        bytes: PAGE_BYTES * shape.pages,
+        words: 4 * shape.steps,
+    };
+    if !fits(sizes, state.len(), pages.len(), bytes.len(), words.len()) {
+        return Reading::TooLong(sizes);
+    }
+    fill_all(text, shape, state, pages, bytes, words);
+    Reading::Done(sizes)
+}
+
+// Reads a sheet: every part of the run goes to the front of its buffer, and what lies past it stays. A read that is refused leaves
+// every buffer as it was.
+pub fn read(
+    text: &[u8],
+    state: &mut [u64],
+    pages: &mut [u64],
+    bytes: &mut [u8],
+    words: &mut [u64],
+) -> Reading
+    ensures { λ r. ⌜ record { answer = r; buffers = record { state = now (state .exit); pages = now (pages .exit); bytes = now (bytes .exit); words = now (words .exit) } } ≡ reads (now (text .entry)) (record { state = now (state .entry); pages = now (pages .entry); bytes = now (bytes .entry); words = now (words .entry) }) ⌝ }
+{
+    match scan_sheet(text) {
+        Scan::NoSheet(line) => Reading::NoSheet(line),
+        Scan::Sheet(shape) => match judge(text, shape) {
+            Tested::Failed(refusal) => Reading::Refused(refusal),
+            Tested::Passed => load(text, shape, state, pages, bytes, words),
+        },
+    }
+}

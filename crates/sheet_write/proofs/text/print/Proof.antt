@@ -1,0 +1,66 @@
+-- `print` meets its contract: the text is as long as was counted, and is laid where it fits. Assumes nothing.
+use Prim.Native.Nat.{ℕ, _/_}
+use mathlib.Core.Path.{_≡_, sym, _∙_, ap}
+use mathlib.Core.List.{List}
+use native.Mathlib.Omega.{arith}
+use lib.ListN.{length}
+use Rattle.sheet.specs.Sheets.{text, savedOf}
+use Rattle.sheet.proofs.TestedLaws.{Passes, passes}
+use Rattle.sheet_write.specs.Laying.{textLength}
+use Rattle.sheet_write.specs.Writes.{goodState}
+use Rattle.sheet_write.proofs.Answers.{too-long, done}
+use Rattle.sheet_write.proofs.Apart.{lent, ten-fields}
+use Rattle.sheet_write.proofs.Sizes.{nonzeros-most, text-size}
+use borrow.Author.Needs.{needs}
+use Rattle.sheet_write.proofs.text.print.Statement.{statement}
+use Rattle.sheet_write.proofs.text.print.Tie as tie
+
+tested : (c : tie.Start) → Passes (c .args .pages .now) (length (c .args .bytes .now)) (goodState (c .args .state .now)) (length (c .args .words .now))
+tested c = passes _ _ _ _ (c .pre)
+
+abbrev whole : tie.Start → List ℕ
+whole c = text (savedOf (c .args .state .now) (c .args .pages .now) (c .args .bytes .now) (c .args .words .now))
+
+-- the count is the text's length
+long : (c : tie.After-text-length) → c .text-length .result ≡ length (whole (c .before .before .before .before .before .before .before))
+long c =
+    let args = c .before .before .before .before .before .before .before .args in
+    let ready = tested (c .before .before .before .before .before .before .before) in
+    c .text-length .ensures
+    ∙ ap (λ (values : ℕ). textLength (length (args .pages .now)) values (length (args .words .now) / 4)) (c .before .nonzero .ensures)
+    ∙ sym (text-size (args .state .now) (args .pages .now) (args .bytes .now) (args .words .now) (ten-fields _ (ready .state)) (ready .list .whole))
+
+nonzero-requires : tie.Need-nonzero-requires
+nonzero-requires c κs = search needs
+
+text-length-requires : tie.Need-text-length-requires
+text-length-requires c κs =
+    let start = c .before .before .before .before .before .before in
+    let ready = tested start in
+    let pages = ready .list .few in
+    let whole = ready .list .whole in
+    let most = nonzeros-most (length (start .args .bytes .now) / 8) (start .args .bytes .now) in
+    let found = c .nonzero .ensures in
+    (pages, omega arith, ready .few)
+
+returns : tie.Need-returns
+returns c = too-long _ _ _ (long (c .before)) (c .if1 .taken)
+
+lay-requires : tie.Need-lay-requires
+lay-requires c κs =
+    let start = c .before .before .before .before .before .before .before .before .before in
+    let ready = tested start in
+    let long-is = long (c .before .before) in
+    let fits = c .before .if1 .left in
+    ((ten-fields _ (ready .state), lent _ _ (ready .list)), omega arith)
+
+same-length : tie.Need-same-length
+same-length c = search needs
+
+returns-2 : tie.Need-returns-2
+returns-2 c = done _ _ _ (long (c .before .before .before .before .before)) _ (c .before .before .before .before .if1 .left) (c .before .before .lay .ensures)
+
+pub print-spec : {M : Type 1} → statement M
+print-spec =
+    tie.close
+    (tie.spec nonzero-requires text-length-requires returns lay-requires same-length returns-2)
