@@ -51,13 +51,15 @@ pub laid-end : (out : List ℕ) (at : ℕ) (piece : List ℕ) (i : ℕ) → leng
 laid-end out at piece i end = rw (drop-of-length-le piece end) (laid-nil out at)
 
 -- from the left
+pub laid-cons : (out : List ℕ) (at x : ℕ) (rest : List ℕ) → at < length out → laid out at (x ∷ rest) ≡ laid (set out at x) (at + 1) rest
+laid-cons out at x rest room = rw (set-laid out at x room) (laid-turn out at (x ∷ []) rest (omega arith))
+
 pub laid-element : (out : List ℕ) (at : ℕ) (piece : List ℕ) (i : ℕ) → i < length piece → at + i < length out
     → laid out (at + i) (drop i piece) ≡ laid (set out (at + i) (getD piece i 0)) (at + (i + 1)) (drop (i + 1) piece)
 laid-element out at piece i more room =
-    let x : ℕ = getD piece i 0 in
     let sum : at + i + 1 ≡ at + (i + 1) = omega arith in
-    let next : drop i piece ≡ (x ∷ []) ++ drop (i + 1) piece = rw (add-one i, drop-cons piece i 0 more) in
-    rw (next, laid-turn out (at + i) (x ∷ []) (drop (i + 1) piece) (omega arith), set-laid out (at + i) x room, sum)
+    let next : drop i piece ≡ getD piece i 0 ∷ drop (i + 1) piece = rw (add-one i, drop-cons piece i 0 more) in
+    rw (next, laid-cons out (at + i) (getD piece i 0) (drop (i + 1) piece) room, sum)
 
 -- from the right: a last element that is in place already
 pub laid-last : (out : List ℕ) (at : ℕ) (piece : List ℕ) (x : ℕ) → at + length piece < length out

@@ -2,7 +2,7 @@
 use Prim.Native.Nat.{ℕ, suc, _+_, _-_, _*_, _/_, _%_, _<_, _≤_}
 use mathlib.Core.Path.{_≡_, refl, sym, ap, _∙_}
 use mathlib.Core.Bool.{true}
-use mathlib.Core.List.{List, [], _∷_}
+use mathlib.Core.List.{List, _∷_}
 use native.Mathlib.Nat.{add-zero, mul-suc}
 use native.Mathlib.Numerals.{add-one}
 use native.Mathlib.Omega.{arith}
@@ -16,17 +16,13 @@ use Rattle.sheet.specs.Reading.{numbers, littleBytes, slotValue, slotBytes, pag
 use Rattle.sheet.specs.Buffers.{laid}
 use Rattle.sheet.specs.declared.line.Line.{Line}
 use Rattle.sheet.specs.declared.line.Line.the-variants.{Sheet, State, Page, Word, Do}
-use Rattle.sheet.proofs.BufferLaws.{laid-nil, laid-turn, set-laid}
+use Rattle.sheet.proofs.BufferLaws.{laid-cons, laid-nil, laid-turn}
 use Rattle.sheet.proofs.LineLaws.{values-count}
 use Rattle.sheet_read.specs.Scan.{Lead, lineCount, slotCount, entriesIn}
 use Rattle.sheet_read.proofs.Leads.{numbers-turn, numbers-none}
 use Rattle.sheet_read.proofs.Places.{line-past, value-at}
 use Rattle.sheet_read.proofs.Stages.{bytes-turn, bytes-none}
 use Rattle.sheet_read.proofs.Pages.{little-length, slots-length, pages-next, pages-none}
-
--- one element
-laid-cons : (out : List ℕ) (at v : ℕ) (rest : List ℕ) → at < length out → laid out at (v ∷ rest) ≡ laid (set out at v) (at + 1) rest
-laid-cons out at v rest room = laid-turn out at (v ∷ []) rest (omega arith) ∙ ap (λ (o : List ℕ). laid o (at + 1) rest) (sym (set-laid out at v room))
 
 -- ---- the numbers of a line
 
