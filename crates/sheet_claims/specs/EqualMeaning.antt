@@ -19,7 +19,7 @@ EqualText =
     → HoldsPages pages₂ bytes₂ pages₁ bytes₁
     → text (savedOf state pages₁ bytes₁ words) ≡ text (savedOf state pages₂ bytes₂ words)
 
--- and so is what a write answers and leaves, into any buffer
+-- and a write of either answers the same and leaves the same, into any buffer
 abbrev pub EqualWrites : Type 0
 EqualWrites =
     (state words pages₁ bytes₁ pages₂ bytes₂ out : List ℕ)

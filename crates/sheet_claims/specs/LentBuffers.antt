@@ -17,7 +17,7 @@ use Rattle.sheet_write.specs.Writes.{printed, writes}
 use Rattle.sheet_write.specs.declared.text.Writing.{Writing}
 use Rattle.sheet_write.specs.declared.text.Writing.the-variants.{Done as WriteDone, Refused as WriteRefused, TooLong as WriteTooLong}
 
--- Of every write that is done: reading the text returns the run, its pages ascending: into every buffer that has room, and with the
+-- Of every write that is done, reading the text returns the run, its pages ascending: into every buffer that has room, and with the
 -- sizes that it needs where one has not.
 abbrev pub WrittenRead : Type 0
 WrittenRead =
@@ -29,7 +29,7 @@ WrittenRead =
     → (writes state pages bytes words out) .answer ≡ WriteDone long
     → reads (take long ((writes state pages bytes words out) .text)) lent ≡ delivered (savedOf state pages bytes words) lent
 
--- Of every read that is done: writing what the buffers then hold returns the text: into a buffer that has room, and with its length
+-- Of every read that is done, writing what the buffers then hold returns the text: into a buffer that has room, and with its length
 -- where it has not.
 abbrev pub ReadWritten : Type 0
 ReadWritten =
