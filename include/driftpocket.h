@@ -206,8 +206,8 @@ uint64_t driftpocket_run(uint64_t *state, size_t state_len, const uint64_t *page
  *   report  always: its first five words, as above. What lies past them stays as it was.
  * If `report_len` is below 5, the answer is 8 and nothing is written, whatever the rest of the input.
  *
- * DRIFTPOCKET_STATE_WORDS, _MOST_PAGES and so on are room enough for every sheet. With buffers of length 0, refusal 8 tells
- * the lengths that are needed.
+ * DRIFTPOCKET_STATE_WORDS, _MOST_PAGES and so on are room enough for every sheet that is not refused. With buffers of
+ * length 0, refusal 8 tells the lengths that are needed.
  */
 uint64_t driftpocket_sheet_read(const uint8_t *text, size_t text_len, uint64_t *state, size_t state_len, uint64_t *pages,
                                 size_t pages_len, uint8_t *bytes, size_t bytes_len, uint64_t *words, size_t words_len,
@@ -228,7 +228,8 @@ uint64_t driftpocket_sheet_read(const uint8_t *text, size_t text_len, uint64_t *
  *   report  its first two words, as above. What lies past them stays as it was.
  * If `report_len` is below 2, the answer is 8 and nothing is written, whatever the rest of the input.
  *
- * DRIFTPOCKET_MOST_TEXT is room enough for every sheet. With a `text_len` of 0, refusal 8 tells the length that is needed.
+ * DRIFTPOCKET_MOST_TEXT is room enough for every run that is not refused. With a `text_len` of 0, refusal 8 tells the
+ * length that is needed.
  */
 uint64_t driftpocket_sheet_write(const uint64_t *state, size_t state_len, const uint64_t *pages, size_t pages_len,
                                  const uint8_t *bytes, size_t bytes_len, const uint64_t *words, size_t words_len,

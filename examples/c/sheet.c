@@ -18,7 +18,7 @@
 
 enum { WORDS = DRIFTPOCKET_MOST_INSTRUCTIONS * DRIFTPOCKET_INSTRUCTION_WORDS };
 
-/* Room for every sheet there is, and for one byte more of a text that is none. */
+/* Room for every sheet that is not refused, and for one byte more of a text that is none. */
 static uint8_t text[DRIFTPOCKET_MOST_TEXT + 1];
 static uint64_t state[DRIFTPOCKET_STATE_WORDS];
 static uint64_t pages[DRIFTPOCKET_MOST_PAGES];

@@ -1,4 +1,4 @@
--- What an input that passed the tests before a run has, and back. The one place that opens the tests of the crates below. Assumes nothing.
+-- What an input that passed the tests before a run has, and back: laws that the crates below do not offer. Assumes nothing.
 use Prim.Native.Nat.{ℕ, _*_, _/_, _%_, _<_, _≤_}
 use mathlib.Core.Path.{_≡_, refl}
 use mathlib.Core.Bool.{Bool, true, false, not, cond, _||_, true≢false}

@@ -7,6 +7,9 @@ ghost use Rattle.sheet.specs.Digits.{digits as digitCount, digit as digi
 // How many digits every number has.
 pub(crate) const DIGITS: usize = 16;
 
+// How many bytes a field has: a tab, the letter x and the digits.
+pub const FIELD: usize = 18;
+
 // Whether a character is a digit, 0 to 9 or a to f.
 pub(crate) fn is_digit(c: u8) -> bool
     ensures { λ r. ⌜ r ≡ isDigit c ⌝ }

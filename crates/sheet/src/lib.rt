@@ -3,6 +3,7 @@ mod digits;
 mod line;
 mod put;
 
+pub use digits::FIELD;
 pub use digits::number;
 pub use line::Line;
 

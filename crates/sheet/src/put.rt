@@ -7,6 +7,7 @@ ghost use Rattle.sheet.specs.Digits.{hex, number, tab};
 ghost use Rattle.sheet.specs.Lines.{name, fields as fieldsOf, line as lineOf};
 ghost use Rattle.sheet.specs.Buffers.{laid, laidIf};
 use crate::digits::DIGITS;
+use crate::digits::FIELD;
 use crate::digits::digit;
 use crate::line::Line;
 
@@ -51,13 +52,13 @@ fn put_fields(values: &[u64], text: &mut [u8], at: usize)
 {
     let mut i = 0;
     while i < values.len() {
-        put_field(values[i], text, at + 18 * i);
+        put_field(values[i], text, at + FIELD * i);
         i += 1;
     }
 }
 
 impl Line {
-    // Writes its name, and says how long that is.
+    // Writes its name.
     fn put_name(self, text: &mut [u8], at: usize)
         requires { ⌜ at + length (name self) ≤ length (now text) ⌝ }
         ensures { λ _. ⌜ now (text .exit) ≡ laid (now (text .entry)) at (name self) ⌝ }
@@ -83,10 +84,11 @@ impl Line {
         if room < named {
             return;
         }
-        if (room - named) / 18 < values.len() {
+        // A quotient, since the product of a long list could wrap.
+        if (room - named) / FIELD < values.len() {
             return;
         }
-        let ended = named + 18 * values.len();
+        let ended = named + FIELD * values.len();
         self.put_name(text, at);
         put_fields(values, text, at + named);
         copy(b"\n", text, at + ended);

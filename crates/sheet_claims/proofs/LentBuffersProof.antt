@@ -1,6 +1,6 @@
 -- Reading and writing undo each other, of what the contracts give: from the round trips of sheets and the laws between buffers and sheets.
 -- Assumes nothing.
-use Prim.Native.Nat.{ℕ, _+_}
+use Prim.Native.Nat.{ℕ, _+_, _/_}
 use mathlib.Core.Path.{_≡_, refl, ap}
 use mathlib.Core.Bool.{Bool, true, false, cond, true≢false}
 use mathlib.Core.List.{List}
@@ -24,8 +24,10 @@ use Rattle.sheet_read.specs.declared.buffers.Sizes.{Sizes}
 use Rattle.sheet_read.specs.declared.buffers.Reading.the-variants.{Done as ReadDone, TooLong as ReadTooLong}
 use Rattle.sheet_write.specs.Writes.{Written, byTest as writtenByTest, goodState, printed, writes}
 use Rattle.sheet_write.specs.declared.text.Writing.the-variants.{Done as WriteDone, TooLong as WriteTooLong}
+use Rattle.sheet_write.specs.Laying.{textLength}
+use Rattle.sheet_write.proofs.Sizes.{text-size, nonzeros-most}
 use Rattle.sheet_claims.specs.RoundTrips.{SavedSheeted}
-use Rattle.sheet_claims.specs.LentBuffers.{WrittenRead, ReadWritten, ReadUntouched, WriteUntouched, readDone, writeDone}
+use Rattle.sheet_claims.specs.LentBuffers.{LongestText, WrittenRead, ReadWritten, ReadUntouched, WriteUntouched, readDone, writeDone}
 use Rattle.sheet_claims.proofs.RoundTripsProof.{reads-back, writes-back}
 use Rattle.sheet_claims.proofs.SavedLaws.{lent-sheeted, ascended-valid, saved-back}
 
@@ -125,6 +127,17 @@ saved-sheeted state pages bytes words small-state small-pages small-bytes small-
     let has = passes pages (length bytes) (goodState state) (length words) e in
     let ten : length state ≡ 10 = eqb-true (length state) 10 (both (eqb (length state) 10) (inRange (stateOf state)) (has .state) .0) in
     lent-sheeted pages bytes (list-valid pages (length bytes) (has .list)) state words ten small-state small-pages small-bytes (has .whole) small-words
+
+pub longest-text : LongestText
+unfolding goodState textLength
+longest-text state pages bytes words e =
+    let has = passes pages (length bytes) (goodState state) (length words) e in
+    let ten : length state ≡ 10 = eqb-true (length state) 10 (both (eqb (length state) 10) (inRange (stateOf state)) (has .state) .0) in
+    let whole = has .list .whole in
+    let few = has .list .few in
+    let steps = has .few in
+    let values = nonzeros-most (length bytes / 8) bytes in
+    rw (text-size state pages bytes words ten whole) (omega arith)
 
 -- the run, its pages ascending, passes the tests again
 again : (state pages bytes words : List ℕ) → Passes pages (length bytes) (goodState state) (length words) → tested (savedOf state pages bytes words) ≡ Passed

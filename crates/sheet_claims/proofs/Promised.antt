@@ -4,7 +4,7 @@ use Rattle.sheet_claims.proofs.WorkedProof.{worked}
 use Rattle.sheet_claims.proofs.RoundTripsProof.{reads-back, writes-back}
 use Rattle.sheet_claims.proofs.FirstBadLineProof.{from-one, before, not-here}
 use Rattle.sheet_claims.proofs.EqualMeaningProof.{equal-text, equal-writes}
-use Rattle.sheet_claims.proofs.LentBuffersProof.{saved-sheeted, written-read, read-written, read-untouched, write-untouched}
+use Rattle.sheet_claims.proofs.LentBuffersProof.{saved-sheeted, longest-text, written-read, read-written, read-untouched, write-untouched}
 
 pub promised : Promises
 promised = record {
@@ -17,6 +17,7 @@ promised = record {
   not-here = not-here;
   equal-text = equal-text;
   equal-writes = equal-writes;
+  longest-text = longest-text;
   written-read = written-read;
   read-written = read-written;
   read-untouched = read-untouched;

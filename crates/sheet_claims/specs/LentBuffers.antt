@@ -1,19 +1,21 @@
 -- Reading and writing undo each other, of what the contracts of `read` and `write` give: answers, and lent buffers of any length.
 -- Assumes nothing.
-use Prim.Native.Nat.{ℕ, _^_}
+use Prim.Native.Nat.{ℕ, _^_, _≤_}
 use mathlib.Core.Path.{_≡_}
 use mathlib.Core.Bool.{Bool, true, false}
 use mathlib.Core.List.{List}
-use lib.ListN.{take}
+use lib.ListN.{length, take}
+use Rattle.replay.specs.Run.{check}
+use Rattle.replay.specs.declared.steps.Tested.the-variants.{Passed}
 use Rattle.sheet.specs.Digits.{Below}
 use Rattle.sheet.specs.Lines.{fieldCount}
 use Rattle.sheet.specs.declared.line.Line.the-variants.{State as StateLine}
-use Rattle.sheet.specs.Sheets.{savedOf}
+use Rattle.sheet.specs.Sheets.{savedOf, text}
 use Rattle.sheet_read.specs.Reads.{Buffers, delivered, reads}
 use Rattle.sheet_read.specs.declared.buffers.Sizes.{Sizes}
 use Rattle.sheet_read.specs.declared.buffers.Reading.{Reading}
 use Rattle.sheet_read.specs.declared.buffers.Reading.the-variants.{Done as ReadDone, NoSheet, Refused as ReadRefused, TooLong as ReadTooLong}
-use Rattle.sheet_write.specs.Writes.{printed, writes}
+use Rattle.sheet_write.specs.Writes.{goodState, printed, writes}
 use Rattle.sheet_write.specs.declared.text.Writing.{Writing}
 use Rattle.sheet_write.specs.declared.text.Writing.the-variants.{Done as WriteDone, Refused as WriteRefused, TooLong as WriteTooLong}
 
@@ -42,6 +44,16 @@ ReadWritten =
     (take (sizes .words) ((reads t lent) .buffers .words))
     out
     ≡ printed t out
+
+-- so many bytes are room enough for the sheet of every run that is not refused
+abbrev pub mostText : ℕ
+mostText = 413250
+
+abbrev pub LongestText : Type 0
+LongestText =
+    (state pages bytes words : List ℕ)
+    → check pages (length bytes) (goodState state) (length words) ≡ Passed
+    → length (text (savedOf state pages bytes words)) ≤ mostText
 
 abbrev pub readDone : Reading → Bool
 readDone (ReadDone sizes) = true

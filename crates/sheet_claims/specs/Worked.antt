@@ -1,7 +1,7 @@
 -- Two whole sheets, letter for letter: the first is the smallest, the second has a line of each kind (docs/RULES.md, "Run sheets"). All other
 -- claims speak of `text`; these rows say what it looks like. Assumes nothing.
 use Prim.Native.Nat.{ℕ}
-use Prim.Native.Char.{Char, code}
+use Prim.Native.Char.{code}
 use Prim.Native.String.{String, [] as end, _∷_ as _then_}
 use mathlib.Core.Path.{_≡_}
 use mathlib.Core.List.{List, [], _∷_, _++_}

@@ -18,6 +18,7 @@ use crate::scan::line_count;
 use crate::scan::page_of;
 use crate::scan::slot_value;
 use memory::PAGE_BYTES;
+use sheet::FIELD;
 use sheet::Line;
 use sheet::SLOTS;
 use sheet::number;
@@ -29,13 +30,13 @@ fn fill_line(line: Line, text: &[u8], at: usize, out: &mut [u64], to: usize)
 {
     let mut i = 0;
     while i < line.count() {
-        out[to + i] = number(text, at + line.first() + 18 * i);
+        out[to + i] = number(text, at + line.first() + FIELD * i);
         i += 1;
     }
 }
 
 // The numbers of n lines of a kind.
-pub fn fill_lines(line: Line, text: &[u8], at: usize, n: usize, out: &mut [u64])
+pub(crate) fn fill_lines(line: Line, text: &[u8], at: usize, n: usize, out: &mut [u64])
     requires { ⌜ Lead line n (lines (drop at (now text))) × (fieldCount line * n ≤ length (now out)) ⌝ }
     ensures { λ _. ⌜ now (out .exit) ≡ laid (now (out .entry)) 0 (numbers line (take n (lines (drop at (now (text .entry)))))) ⌝ }
 {
@@ -86,7 +87,7 @@ fn fill_page(text: &[u8], from: usize, entry: u64, bytes: &mut [u8], at: usize) 
 }
 
 // The bytes of all pages.
-pub fn fill_pages(text: &[u8], pages: usize, bytes: &mut [u8])
+pub(crate) fn fill_pages(text: &[u8], pages: usize, bytes: &mut [u8])
     requires { ⌜ (bodyAt ≤ length (now text)) × Lead PageLine pages (lines (drop bodyAt (now text))) × (pageBytes * pages ≤ length (now bytes)) ⌝ }
     ensures { λ _. ⌜ now (bytes .exit) ≡ laid (now (bytes .entry)) 0 (bytesOf (pagesIn (entriesIn pages (drop bodyAt (now (text .entry)))) (lines (drop (wordsAt pages) (now (text .entry)))))) ⌝ }
 {

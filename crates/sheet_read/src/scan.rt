@@ -15,35 +15,35 @@ use sheet::VERSION;
 use sheet::number;
 
 // Where the state stands, behind the line of the version; and the lines after both.
-pub const STATE: usize = 24;
+pub(crate) const STATE: usize = 24;
 
-pub const BODY: usize = 210;
+pub(crate) const BODY: usize = 210;
 
 // How long a page line, a word line and a do line are.
-pub const PAGE_LINE: usize = 23;
+pub(crate) const PAGE_LINE: usize = 23;
 
-pub const WORD_LINE: usize = 41;
+pub(crate) const WORD_LINE: usize = 41;
 
-pub const DO_LINE: usize = 75;
+pub(crate) const DO_LINE: usize = 75;
 
 // Where the number of a sheet line begins, that of a page line, and the two of a word line.
 const VERSION_AT: usize = 7;
 
-pub const ENTRY_AT: usize = 6;
+pub(crate) const ENTRY_AT: usize = 6;
 
 const ADDRESS_AT: usize = 6;
 
 const VALUE_AT: usize = 24;
 
 // How many page, word and do lines a sheet has.
-pub struct Shape {
+pub(crate) struct Shape {
     pub pages: usize,
     pub words: usize,
     pub steps: usize,
 }
 
 // What a text is.
-pub enum Scan {
+pub(crate) enum Scan {
     Sheet(Shape),
     // No sheet: the first line, from 1, that cannot begin or continue one.
     NoSheet(usize),
@@ -69,7 +69,7 @@ fn count_pages(text: &[u8]) -> usize
 }
 
 // The value at an address: that of the line here, if it is this address's, else 0.
-pub fn slot_value(text: &[u8], at: usize, address: u64) -> u64
+pub(crate) fn slot_value(text: &[u8], at: usize, address: u64) -> u64
     ensures { λ r. ⌜ r ≡ slotValue address (lines (drop at (now (text .entry)))) ⌝ }
 {
     if !Line::Word.stands(text, at) {
@@ -82,14 +82,14 @@ pub fn slot_value(text: &[u8], at: usize, address: u64) -> u64
 }
 
 // How many lines a value takes: none where it is 0.
-pub fn line_count(value: u64) -> usize
+pub(crate) fn line_count(value: u64) -> usize
     ensures { λ r. ⌜ r ≡ lineCount value ⌝ }
 {
     if value == 0 { 0 } else { 1 }
 }
 
 // The address of an entry's page.
-pub fn page_of(entry: u64) -> u64
+pub(crate) fn page_of(entry: u64) -> u64
     ensures { λ r. ⌜ r ≡ pageOf entry ⌝ }
 {
     entry / (PAGE_BYTES as u64) * (PAGE_BYTES as u64)
@@ -165,7 +165,7 @@ fn scan_body(text: &[u8]) -> Scan
 }
 
 // What a text is.
-pub fn scan_sheet(text: &[u8]) -> Scan
+pub(crate) fn scan_sheet(text: &[u8]) -> Scan
     ensures { λ r. ⌜ Scanned (now (text .entry)) r ⌝ }
 {
     if !Line::Sheet.stands(text, 0) {

@@ -1,4 +1,5 @@
--- Laws that belong to no one function.
+-- Laws that belong to no one function. The crates above cite `Sizes`.
+pub mod Sizes
 mod Nearer
 mod Ascending
 mod Apart
@@ -7,5 +8,4 @@ mod ValueLaws
 mod Lays
 mod Rests
 mod Texts
-mod Sizes
 mod Answers

@@ -8,6 +8,7 @@ ghost use Rattle.sheet_write.specs.Values.{nonzeros};
 // How many bytes a value has.
 pub(crate) const VALUE_BYTES: usize = 8;
 
+// A byte as a number: by itself, so that a sum with it needs no proof that it fits.
 fn wide(byte: u8) -> u64
     ensures { λ r. ⌜ r ≡ byte ⌝ }
 {

@@ -8,7 +8,7 @@
 //!
 //! * [`run`] runs a list of instructions on a [`State`] and a [`PageList`].
 //! * [`sheet`] reads and writes run sheets: state, pages and instructions as a
-//!   text that a spreadsheet cannot spoil.
+//!   text whose numbers a spreadsheet takes for text.
 //! * [`run_raw`], [`sheet_read_raw`] and [`sheet_write_raw`] are the libraries'
 //!   functions as they are, on plain numbers.
 //! * [`trace`] says what a completed instruction loaded and stored, to be

@@ -1,6 +1,6 @@
 -- `fill_page` meets its contract. The invariant: the lines counted and those from here on are all of them, and what is still to be laid,
 -- from here on, gives the whole. Assumes nothing.
-use Prim.Native.Nat.{ℕ, _+_, _-_, _*_, _/_, _≤_}
+use Prim.Native.Nat.{ℕ, _+_, _-_, _*_, _≤_}
 use mathlib.Core.Path.{_≡_, refl, sym, _∙_}
 use mathlib.Core.List.{List}
 use native.Mathlib.Omega.{arith}
