@@ -43,7 +43,7 @@ pub fn relative(state: State, a: u64, length: u64) -> u64
 }
 
 // Whether the target may be called.
-fn in_code(state: State, target: u64) -> bool
+pub(crate) fn in_code(state: State, target: u64) -> bool
     ensures { λ r. ⌜ r ≡ inCode state target ⌝ }
 {
     if state.is_long() {
@@ -54,7 +54,7 @@ fn in_code(state: State, target: u64) -> bool
 }
 
 // How many bytes each push has.
-fn pushed(state: State) -> Size
+pub(crate) fn pushed(state: State) -> Size
     ensures { λ r. ⌜ r ≡ pushedOf state ⌝ }
 {
     if state.is_long() {
@@ -65,7 +65,7 @@ fn pushed(state: State) -> Size
 }
 
 // Whether a push of 4 bytes would run past the end of a 32-bit stack.
-fn runs_past(state: State, first: u64) -> bool
+pub(crate) fn runs_past(state: State, first: u64) -> bool
     ensures { λ r. ⌜ r ≡ runsPast state first ⌝ }
 {
     if state.is_long() {

@@ -51,6 +51,10 @@ pageFault address = faultOf Page 0 address
 abbrev pub controlFault : ℕ → Fault
 controlFault code = faultOf Control code 0
 
+-- #CP(NEAR-RET)
+abbrev pub cpNearRet : Fault
+cpNearRet = controlFault 1
+
 -- #CP(RSTORSSP)
 abbrev pub cpRstorssp : Fault
 cpRstorssp = controlFault 4

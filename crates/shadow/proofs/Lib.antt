@@ -1,3 +1,4 @@
 -- The ways through each operation: what the definition gives, by what the code found.
 mod IncsspWays
 mod WrssWays
+mod WrussWays

@@ -1,0 +1,86 @@
+-- The ways through RET, each by the tests and the loads on it. Assumes nothing.
+use Prim.Native.Nat.{ℕ}
+use mathlib.Core.Path.{_≡_, refl, _∙_}
+use mathlib.Core.Bool.{true, false, not}
+use mathlib.Core.List.{List}
+use lib.Dec.{eqb}
+use borrow.Author.Tests.{eq-eqb, ne-eqb}
+use Rattle.memory.specs.Access.{byteCount, load as loadAt}
+use Rattle.memory.specs.Pages.{Lookup}
+use Rattle.memory.specs.declared.access.Failure.{Failure}
+use Rattle.memory.specs.declared.load.Loaded.the-variants.{Value, Blocked as Unloaded}
+use Rattle.processor.specs.Answer.{ss, gp, cpNearRet}
+use Rattle.processor.specs.State.{enabled, plus, withSp, withSsp}
+use Rattle.processor.specs.Accesses.{shadow, ordinary, blame}
+use Rattle.processor.specs.Outcomes.{completed, faulted, stepOf}
+use Rattle.processor.specs.Prog.{ended, broken, interp, operate}
+use Rattle.processor.specs.declared.answer.Fault.{Fault}
+use Rattle.processor.specs.declared.state.State.{State}
+use Rattle.processor.proofs.Laws.{passed, halted, loaded, not-loaded, continues, breaks, completes, faults}
+use Rattle.calls.specs.Call.{inCode, pushed, runsPast}
+use Rattle.calls.specs.Ret.{popFrame, newSsp, ret}
+
+-- ---- the shadow stack
+
+module _ (look : Lookup) (bytes : List ℕ) (s : State) (target : ℕ) where
+  pub not-asked : enabled s ≡ false → interp look (newSsp s target) bytes ≡ ended (s .ssp) bytes
+  unfolding newSsp interp
+  not-asked e = rw e
+
+  module _ (on : enabled s ≡ true) where
+    pub frame-blocked : (failure : Failure) → loadAt look bytes (shadow s (s .ssp) (pushed s) false) ≡ Unloaded failure
+        → interp look (newSsp s target) bytes ≡ broken (blame (shadow s (s .ssp) (pushed s) false) failure)
+    unfolding newSsp popFrame
+    frame-blocked failure e = rw on (not-loaded look bytes (shadow s (s .ssp) (pushed s) false) _ failure e)
+
+    module _ (frame : ℕ) (e : loadAt look bytes (shadow s (s .ssp) (pushed s) false) ≡ Value frame) where
+      pub frame-differs : (frame ≡ target → ⊥) → interp look (newSsp s target) bytes ≡ broken cpNearRet
+      unfolding newSsp popFrame
+      frame-differs other = rw on (loaded look bytes (shadow s (s .ssp) (pushed s) false) _ frame e ∙ halted look bytes (eqb frame target) cpNearRet _ (ne-eqb _ _ other))
+
+      pub frame-popped : frame ≡ target → interp look (newSsp s target) bytes ≡ ended (plus s (s .ssp) (byteCount (pushed s))) bytes
+      unfolding newSsp popFrame interp
+      frame-popped same = rw on (loaded look bytes (shadow s (s .ssp) (pushed s) false) _ frame e ∙ passed look bytes (eqb frame target) cpNearRet _ (eq-eqb _ _ same))
+
+-- ---- the whole
+
+module _ (look : Lookup) (bytes : List ℕ) (count : ℕ) (s : State) where
+  pub stack-end : runsPast s (s .sp) ≡ true → operate look (ret count s) s bytes ≡ stepOf (faulted s ss) bytes
+  unfolding ret
+  stack-end e = faults look _ s bytes ss (halted look bytes (not (runsPast s (s .sp))) ss _ (rw e))
+
+  module _ (inside : runsPast s (s .sp) ≡ false) where
+    pub pop-blocked : (failure : Failure) → loadAt look bytes (ordinary s (s .sp) (pushed s) false) ≡ Unloaded failure
+        → operate look (ret count s) s bytes ≡ stepOf (faulted s (blame (ordinary s (s .sp) (pushed s) false) failure)) bytes
+    unfolding ret
+    pop-blocked failure e =
+        faults look _ s bytes _ (passed look bytes (not (runsPast s (s .sp))) ss _ (rw inside) ∙ not-loaded look bytes (ordinary s (s .sp) (pushed s) false) _ failure e)
+
+    module _ (target : ℕ) (popped : loadAt look bytes (ordinary s (s .sp) (pushed s) false) ≡ Value target) where
+      pub frame-failed : (fault : Fault) → interp look (newSsp s target) bytes ≡ broken fault → operate look (ret count s) s bytes ≡ stepOf (faulted s fault) bytes
+      unfolding ret
+      frame-failed fault e =
+          faults look _ s bytes fault
+          (passed look bytes (not (runsPast s (s .sp))) ss _ (rw inside)
+          ∙ loaded look bytes (ordinary s (s .sp) (pushed s) false) _ target popped
+          ∙ breaks look _ (newSsp s target) bytes fault e)
+
+      module _ (ssp : ℕ) (framed : interp look (newSsp s target) bytes ≡ ended ssp bytes) where
+        pub outside : inCode s target ≡ false → operate look (ret count s) s bytes ≡ stepOf (faulted s gp) bytes
+        unfolding ret
+        outside e =
+            faults look _ s bytes gp
+            (passed look bytes (not (runsPast s (s .sp))) ss _ (rw inside)
+            ∙ loaded look bytes (ordinary s (s .sp) (pushed s) false) _ target popped
+            ∙ continues look _ (newSsp s target) bytes ssp bytes framed
+            ∙ halted look bytes (inCode s target) gp _ e)
+
+        pub returned : inCode s target ≡ true
+            → operate look (ret count s) s bytes ≡ stepOf (completed (withSsp (withSp s (plus s (plus s (s .sp) (byteCount (pushed s))) count)) ssp) target) bytes
+        unfolding ret interp
+        returned e =
+            completes look _ s bytes _ bytes
+            (passed look bytes (not (runsPast s (s .sp))) ss _ (rw inside)
+            ∙ loaded look bytes (ordinary s (s .sp) (pushed s) false) _ target popped
+            ∙ continues look _ (newSsp s target) bytes ssp bytes framed
+            ∙ passed look bytes (inCode s target) gp _ e)
