@@ -1,4 +1,4 @@
--- The instruction set that is built: codes 1 to 8 (docs/RULES.md, "Instructions"). Assumes nothing.
+-- The instruction set that is built: codes 1 to 12 (docs/RULES.md, "Instructions"). Assumes nothing.
 use Prim.Native.Nat.{ℕ}
 use mathlib.Core.Bool.{cond}
 use lib.Dec.{eqb}
@@ -6,10 +6,12 @@ use Rattle.processor.specs.Answer.{ud}
 use Rattle.processor.specs.Prog.{Prog, stop}
 use Rattle.processor.specs.declared.state.State.{State}
 use Rattle.shadow.specs.Incssp.{incssp}
+use Rattle.shadow.specs.Wruss.{wruss}
 use Rattle.switches.specs.Rstorssp.{rstorssp}
 use Rattle.switches.specs.Saveprevssp.{saveprevssp}
 use Rattle.calls.specs.Call.{relative, call}
-use Rattle.replay.specs.Instruction.{isIncssp, isCall, sizeOf, wellFormed}
+use Rattle.calls.specs.Ret.{ret}
+use Rattle.replay.specs.Instruction.{isIncssp, isCall, isRet, isWruss, sizeOf, wellFormed}
 use Rattle.replay.specs.Exec.{InstructionSet}
 use Rattle.replay.specs.declared.instruction.Instruction.{Instruction}
 
@@ -17,14 +19,21 @@ use Rattle.replay.specs.declared.instruction.Instruction.{Instruction}
 unfoldable pub target : Instruction → State → ℕ
 target i s = cond (eqb (i .code) 7) (relative s (i .a) (i .length)) (i .a)
 
--- by its code; codes 5 and 6 are WRSS (`operationOf`), and an unknown one has been refused before
+-- codes 9 to 12; A is 0 in RET without a count, and an unknown code has been refused before
+unfoldable pub operationFrom9 : Instruction → State → Prog State
+operationFrom9 i s =
+    cond (isRet i) (ret (i .a) s)
+    (cond (isWruss i) (wruss (sizeOf i) (i .a) (i .b) (i .length) s)
+    (stop ud))
+
+-- by its code; codes 5 and 6 are WRSS (`operationOf`)
 unfoldable pub operation : Instruction → State → Prog State
 operation i s =
     cond (isIncssp i) (incssp (sizeOf i) (i .b) (i .length) s)
     (cond (eqb (i .code) 3) (rstorssp (i .a) (i .length) s)
     (cond (eqb (i .code) 4) (saveprevssp (i .length) s)
     (cond (isCall i) (call (target i s) (i .length) s)
-    (stop ud))))
+    (operationFrom9 i s))))
 
 abbrev pub codes : InstructionSet
 codes = record { fits = λ i s. wellFormed i (s .mode); operation = operation }

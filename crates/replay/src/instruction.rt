@@ -2,7 +2,7 @@
 ghost use Prim.Native.Nat.{_+_, _*_, _<_};
 ghost use mathlib.Core.Path.{_≡_};
 ghost use lib.ListN.{length as count};
-ghost use Rattle.replay.specs.Instruction.{instructionAt, oneOf, isIncssp, isWrss, isCall, isQuad, sizeOf, lengthFits, wordsFit, narrow as narrowOf, modeFits, wellFormed};
+ghost use Rattle.replay.specs.Instruction.{instructionAt, oneOf, isIncssp, isWrss, isCall, isRet, isWruss, isQuad, sizeOf, lengthFits, wordsFitFrom9, wordsFit, narrow as narrowOf, modeFits, wellFormed};
 use memory::Size;
 
 // The first number of more than 32 bits.
@@ -56,13 +56,25 @@ impl Instruction {
         self.one_of(7, 8)
     }
 
+    pub(crate) fn is_ret(self) -> bool
+        ensures { λ r. ⌜ r ≡ isRet self ⌝ }
+    {
+        self.one_of(9, 10)
+    }
+
+    pub(crate) fn is_wruss(self) -> bool
+        ensures { λ r. ⌜ r ≡ isWruss self ⌝ }
+    {
+        self.one_of(11, 12)
+    }
+
     fn is_quad(self) -> bool
         ensures { λ r. ⌜ r ≡ isQuad self ⌝ }
     {
-        self.one_of(2, 6)
+        self.one_of(2, 6) || self.code == 12
     }
 
-    // How many bytes INCSSP and WRSS work on.
+    // How many bytes INCSSP, WRSS and WRUSS work on.
     pub(crate) fn size(self) -> Size
         ensures { λ r. ⌜ r ≡ sizeOf self ⌝ }
     {
@@ -77,6 +89,19 @@ impl Instruction {
         ensures { λ r. ⌜ r ≡ lengthFits self ⌝ }
     {
         1 <= self.length && self.length <= 15
+    }
+
+    // The same of codes 9 to 12: a count has 16 bits.
+    fn words_fit_from_9(self) -> bool
+        ensures { λ r. ⌜ r ≡ wordsFitFrom9 self ⌝ }
+    {
+        if self.code == 9 {
+            return self.a == 0 && self.b == 0;
+        }
+        if self.code == 10 {
+            return self.a < 0x1_0000 && self.b == 0;
+        }
+        self.is_wruss()
     }
 
     // Whether the code is known, the words that it does not use are 0, and a displacement has 32 bits.
@@ -98,7 +123,10 @@ impl Instruction {
         if self.code == 7 {
             return self.a < WIDE && self.b == 0;
         }
-        self.code == 8 && self.b == 0
+        if self.code == 8 {
+            return self.b == 0;
+        }
+        self.words_fit_from_9()
     }
 
     // Whether it has a form of mode 1: none of 8 bytes, and no word of more than 32 bits.
@@ -111,12 +139,12 @@ impl Instruction {
         self.a < WIDE && self.b < WIDE
     }
 
-    // Whether it has a form of its mode: mode 0 has no call.
+    // Whether it has a form of its mode: mode 0 has no call and no return.
     fn mode_fits(self, mode: u64) -> bool
         ensures { λ r. ⌜ r ≡ modeFits self mode ⌝ }
     {
         match mode {
-            0 => !self.is_call(),
+            0 => !self.is_call() && !self.is_ret(),
             1 => self.narrow(),
             _ => true,
         }

@@ -6,7 +6,7 @@ ghost use Rattle.processor.specs.Prog.{operate};
 ghost use Rattle.processor.specs.Outcomes.{stepOf};
 ghost use Rattle.replay.specs.Exec.{operationOf, perform as performOf};
 ghost use Rattle.replay.specs.Unhidden.{unhidden};
-ghost use Rattle.replay.specs.Codes.{codes, target as targetOf};
+ghost use Rattle.replay.specs.Codes.{codes, target as targetOf, operationFrom9};
 use crate::instruction::Instruction;
 use crate::permission::hidden;
 use crate::permission::shown;
@@ -25,6 +25,20 @@ fn call_target(step: Instruction, state: State) -> u64
     } else {
         step.a
     }
+}
+
+// Runs a well-formed instruction whose code is 9 or above.
+fn dispatch_from_9(step: Instruction, state: State, pages: &[u64], bytes: &mut [u8]) -> Outcome
+    ensures { λ r. ⌜ stepOf r (now (bytes .exit)) ≡ operate (spot (now (pages .entry)) (count (now (bytes .entry)))) (operationFrom9 step state) state (now (bytes .entry)) ⌝ }
+{
+    if step.is_ret() {
+        return calls::ret::execute(state, pages, bytes, step.a);
+    }
+    if step.is_wruss() {
+        let size = step.size();
+        return shadow::wruss::execute(state, pages, bytes, size, step.a, step.b, step.length);
+    }
+    state.fail(processor::fault(Vector::InvalidOpcode))
 }
 
 // Runs a well-formed instruction on the state that operations see. Each operation is called from one place, so that it can be inlined.
@@ -56,7 +70,7 @@ fn dispatch(
     if step.is_call() {
         return calls::call::execute(state, pages, bytes, call_target(step, state), length);
     }
-    state.fail(processor::fault(Vector::InvalidOpcode))
+    dispatch_from_9(step, state, pages, bytes)
 }
 
 // The outcome with the permission bits of the state before it.

@@ -3,7 +3,6 @@ use mathlib.Core.Path.{sym, _∙_}
 use borrow.Author.Needs.{needs}
 use borrow.Author.Tests.{eq-eqb, ne-eqb}
 use Rattle.replay.proofs.perform.dispatch.Tie as tie
-use Rattle.processor.specs.Prog.{interp, operate}
 use Rattle.replay.specs.Exec.{operationOf}
 use Rattle.replay.specs.Codes.{operation}
 use Rattle.replay.proofs.perform.dispatch.Statement.{statement}
@@ -73,15 +72,15 @@ returns-5 : tie.Need-returns-5
 unfolding operationOf operation
 returns-5 c = rw (sym (c .before .before .before .before .before .before .before .before .before .before .before .before .before .before .is-wrss .ensures) ∙ c .before .before .before .before .before .before .before .before .before .before .before .before .before .if1 .left, sym (c .before .before .before .before .before .before .before .before .before .before .before .before .is-incssp .ensures) ∙ c .before .before .before .before .before .before .before .before .before .before .before .if2 .left, ne-eqb _ _ (c .before .before .before .before .before .before .before .before .before .if3 .left), ne-eqb _ _ (c .before .before .before .before .before .before .before .if4 .left), sym (c .before .before .before .before .before .before .is-call .ensures) ∙ c .before .before .before .before .before .if5 .taken, ← c .before .before .before .call-target .ensures) (c .before .before .execute5 .ensures)
 
-fault-requires : tie.Need-fault-requires
-fault-requires c κs = search needs
+dispatch-from-9-requires : tie.Need-dispatch-from-9-requires
+dispatch-from-9-requires c κs = search needs
 
-fail-requires : tie.Need-fail-requires
-fail-requires c κs = search needs
+same-length-6 : tie.Need-same-length-6
+same-length-6 c = search needs
 
 returns-6 : tie.Need-returns-6
-unfolding operationOf operation interp operate
-returns-6 c = rw (sym (c .before .before .before .before .before .before .before .before .before .before .before .is-wrss .ensures) ∙ c .before .before .before .before .before .before .before .before .before .before .if1 .left, sym (c .before .before .before .before .before .before .before .before .before .is-incssp .ensures) ∙ c .before .before .before .before .before .before .before .before .if2 .left, ne-eqb _ _ (c .before .before .before .before .before .before .if3 .left), ne-eqb _ _ (c .before .before .before .before .if4 .left), sym (c .before .before .before .is-call .ensures) ∙ c .before .before .if5 .left, c .fail .ensures, c .before .fault .ensures)
+unfolding operationOf operation
+returns-6 c = rw (sym (c .before .before .before .before .before .before .before .before .before .before .before .before .before .is-wrss .ensures) ∙ c .before .before .before .before .before .before .before .before .before .before .before .before .if1 .left, sym (c .before .before .before .before .before .before .before .before .before .before .before .is-incssp .ensures) ∙ c .before .before .before .before .before .before .before .before .before .before .if2 .left, ne-eqb _ _ (c .before .before .before .before .before .before .before .before .if3 .left), ne-eqb _ _ (c .before .before .before .before .before .before .if4 .left), sym (c .before .before .before .before .before .is-call .ensures) ∙ c .before .before .before .before .if5 .left) (c .before .before .dispatch-from-9 .ensures)
 
 pub dispatch-spec : {M : Type 1} → statement M
 dispatch-spec =
@@ -107,6 +106,6 @@ dispatch-spec =
     execute-requires-5
     same-length-5
     returns-5
-    fault-requires
-    fail-requires
+    dispatch-from-9-requires
+    same-length-6
     returns-6)

@@ -44,9 +44,12 @@ returns-8 : tie.Need-returns-8
 unfolding wordsFit
 returns-8 c = rw (sym (c .before .before .before .before .before .before .before .before .before .before .before .before .is-incssp .ensures) ∙ c .before .before .before .before .before .before .before .before .before .before .before .if1 .left, ne-eqb _ _ (c .before .before .before .before .before .before .before .before .before .if2 .left), ne-eqb _ _ (c .before .before .before .before .before .before .before .if3 .left), sym (c .before .before .before .before .before .before .is-wrss .ensures) ∙ c .before .before .before .before .before .if5 .left, ne-eqb _ _ (c .before .before .before .if6 .left), eq-eqb _ _ (c .before .if8 .taken))
 
+words-fit-from-9-requires : tie.Need-words-fit-from-9-requires
+words-fit-from-9-requires c κs = search needs
+
 returns-9 : tie.Need-returns-9
 unfolding wordsFit
-returns-9 c = rw (sym (c .before .before .before .before .before .before .before .before .before .before .before .is-incssp .ensures) ∙ c .before .before .before .before .before .before .before .before .before .before .if1 .left, ne-eqb _ _ (c .before .before .before .before .before .before .before .before .if2 .left), ne-eqb _ _ (c .before .before .before .before .before .before .if3 .left), sym (c .before .before .before .before .before .is-wrss .ensures) ∙ c .before .before .before .before .if5 .left, ne-eqb _ _ (c .before .before .if6 .left), ne-eqb _ _ (c .if8 .left))
+returns-9 c = rw (sym (c .before .before .before .before .before .before .before .before .before .before .before .before .is-incssp .ensures) ∙ c .before .before .before .before .before .before .before .before .before .before .before .if1 .left, ne-eqb _ _ (c .before .before .before .before .before .before .before .before .before .if2 .left), ne-eqb _ _ (c .before .before .before .before .before .before .before .if3 .left), sym (c .before .before .before .before .before .before .is-wrss .ensures) ∙ c .before .before .before .before .before .if5 .left, ne-eqb _ _ (c .before .before .before .if6 .left), ne-eqb _ _ (c .before .if8 .left)) (c .words-fit-from-9 .ensures)
 
 pub words-fit-spec : {M : Type 1} → statement M
 words-fit-spec =
@@ -62,4 +65,5 @@ words-fit-spec =
     returns-6
     returns-7
     returns-8
+    words-fit-from-9-requires
     returns-9)
