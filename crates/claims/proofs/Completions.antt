@@ -14,15 +14,15 @@ use Rattle.processor.specs.declared.answer.Answer.the-variants.{Completed}
 use Rattle.processor.specs.declared.state.State.{State}
 use Rattle.switches.specs.Saveprevssp.{carry}
 use Rattle.calls.specs.Call.{pushed}
-use Rattle.replay.specs.Instruction.{isCall, isQuad, sizeOf, wordsFit, lengthFits, narrow, modeFits, wellFormed}
+use Rattle.replay.specs.Instruction.{isIncssp, isCall, isRet, isQuad, sizeOf, wordsFit, lengthFits, narrow, modeFits, wellFormed}
 use Rattle.replay.specs.Permission.{writeBit, withoutWrite, withCet, hidden, shown}
 use Rattle.replay.specs.Exec.{operationOf, exec, perform}
-use Rattle.replay.specs.Codes.{target, operation, codes}
+use Rattle.replay.specs.Codes.{target, operationFrom9, operation, codes}
 use Rattle.replay.specs.declared.instruction.Instruction.{Instruction}
-use Rattle.claims.specs.Ledger.{popped, pushedBy}
-use Rattle.claims.proofs.CodeNames.{Named, wrss, incssp, rstorssp, saveprevssp, call, unknown, named}
+use Rattle.claims.specs.Ledger.{frame, popped, pushedBy}
+use Rattle.claims.proofs.CodeNames.{Named, wrss, incssp, rstorssp, saveprevssp, call, ret, wruss, unknown, named}
 use Rattle.claims.proofs.Leaves.{Leaves, then-leaves, performed}
-use Rattle.claims.proofs.OperationLeaves.{Kept, Pointer, incssp-leaves, wrss-leaves, rstorssp-leaves, pastToken, saveprevssp-leaves, belowPushed, call-leaves}
+use Rattle.claims.proofs.OperationLeaves.{Kept, Pointer, incssp-leaves, wrss-leaves, rstorssp-leaves, pastToken, saveprevssp-leaves, belowPushed, call-leaves, pastFrame, ret-leaves, wruss-leaves}
 use Rattle.claims.proofs.PointerSums.{plus-back, plus-twice, minus-back}
 use Rattle.claims.proofs.RangeParts.{both, InRange}
 
@@ -41,13 +41,17 @@ enabled-alike s = ap (λ (n : ℕ). eqb (s .cet) 1 && eqb n 1) (go (userMode s))
     go true = odd-alike (s .ucet)
     go false = odd-alike (s .scet)
 
+frame-alike : (s : State) → frame (hidden s) ≡ frame s
+unfolding frame hidden
+frame-alike s = ap (λ (t : Bool). cond t (byteCount (pushed s)) 0) (enabled-alike s)
+
 popped-alike : (i : Instruction) (s : State) → popped i (hidden s) ≡ popped i s
 unfolding popped hidden
-popped-alike i s = refl
+popped-alike i s = ap (λ (n : ℕ). cond (isIncssp i) (byteCount (sizeOf i) * (i .b % 256)) (cond (eqb (i .code) 4) (cond (carry s) 12 8) (cond (isRet i) n 0))) (frame-alike s)
 
 pushed-alike : (i : Instruction) (s : State) → pushedBy i (hidden s) ≡ pushedBy i s
-unfolding pushedBy hidden
-pushed-alike i s = ap (λ (t : Bool). cond (isCall i) (cond t (byteCount (pushed s)) 0) 0) (enabled-alike s)
+unfolding pushedBy
+pushed-alike i s = ap (λ (n : ℕ). cond (isCall i) n 0) (frame-alike s)
 
 range-alike : (s : State) (ucet scet : ℕ) → InRange s → InRange (withCet s ucet scet)
 range-alike s ucet scet h =
@@ -75,12 +79,21 @@ past-turn s = go (carry s)
     go false = plus-back (widthOf s) (s .ssp) 8
 
 -- CALL
-below-turn : (s : State) → wrapped (widthOf s) (s .ssp + 0) ≡ wrapped (widthOf s) (belowPushed s + cond (enabled s) (byteCount (pushed s)) 0)
-unfolding minus
+below-turn : (s : State) → wrapped (widthOf s) (s .ssp + 0) ≡ wrapped (widthOf s) (belowPushed s + frame s)
+unfolding minus frame
 below-turn s = go (enabled s)
   where
     go : (t : Bool) → wrapped (widthOf s) (s .ssp + 0) ≡ wrapped (widthOf s) (cond t (minus s (s .ssp) (byteCount (pushed s))) (s .ssp) + cond t (byteCount (pushed s)) 0)
     go true = minus-back (widthOf s) (s .ssp) (byteCount (pushed s))
+    go false = refl
+
+-- RET
+frame-turn : (s : State) → wrapped (widthOf s) (s .ssp + frame s) ≡ wrapped (widthOf s) (pastFrame s + 0)
+unfolding plus frame
+frame-turn s = go (enabled s)
+  where
+    go : (t : Bool) → wrapped (widthOf s) (s .ssp + cond t (byteCount (pushed s)) 0) ≡ wrapped (widthOf s) (cond t (plus s (s .ssp) (byteCount (pushed s))) (s .ssp) + 0)
+    go true = plus-back (widthOf s) (s .ssp) (byteCount (pushed s))
     go false = refl
 
 -- ---- the form of RSTORSSP
@@ -107,12 +120,12 @@ record Leads (i : Instruction) (allowed : Bool) (s : State) : Type 0 where
   turn : Turn i s new
 
 leads : (i : Instruction) (allowed : Bool) (s : State) → wellFormed i (s .mode) ≡ true → Named i → Leads i allowed s
-unfolding operationOf operation popped pushedBy plus Leaves
+unfolding operationOf operationFrom9 operation popped pushedBy plus Leaves
 leads i allowed s form (wrss t) =
     record {
       new = s .ssp;
       leaves = rw (t .is-wrss) (wrss-leaves (sizeOf i) allowed (i .a) (i .b) (i .length) s);
-      turn = λ other. rw (t .is-incssp, t .is-saveprevssp, t .is-call);
+      turn = λ other. rw (t .is-incssp, t .is-saveprevssp, t .is-ret, t .is-call);
     }
 leads i allowed s form (incssp t) =
     record {
@@ -136,13 +149,25 @@ leads i allowed s form (call t) =
     record {
       new = belowPushed s;
       leaves = rw (t .is-wrss, t .is-incssp, t .is-rstorssp, t .is-saveprevssp, t .is-call) (call-leaves (target i s) (i .length) s);
-      turn = λ other. rw (t .is-incssp, t .is-saveprevssp, t .is-call) (below-turn s);
+      turn = λ other. rw (t .is-incssp, t .is-saveprevssp, t .is-ret, t .is-call) (below-turn s);
+    }
+leads i allowed s form (ret t) =
+    record {
+      new = pastFrame s;
+      leaves = rw (t .is-wrss, t .is-incssp, t .is-rstorssp, t .is-saveprevssp, t .is-call, t .is-ret) (ret-leaves (i .a) s);
+      turn = λ other. rw (t .is-incssp, t .is-saveprevssp, t .is-ret, t .is-call) (frame-turn s);
+    }
+leads i allowed s form (wruss t) =
+    record {
+      new = s .ssp;
+      leaves = rw (t .is-wrss, t .is-incssp, t .is-rstorssp, t .is-saveprevssp, t .is-call, t .is-ret, t .is-wruss) (wruss-leaves (sizeOf i) (i .a) (i .b) (i .length) s);
+      turn = λ other. rw (t .is-incssp, t .is-saveprevssp, t .is-ret, t .is-call);
     }
 leads i allowed s form (unknown t) =
     record {
       new = s .ssp;
-      leaves = rw (t .is-wrss, t .is-incssp, t .is-rstorssp, t .is-saveprevssp, t .is-call) tt;
-      turn = λ other. rw (t .is-incssp, t .is-saveprevssp, t .is-call);
+      leaves = rw (t .is-wrss, t .is-incssp, t .is-rstorssp, t .is-saveprevssp, t .is-call, t .is-ret, t .is-wruss) tt;
+      turn = λ other. rw (t .is-incssp, t .is-saveprevssp, t .is-ret, t .is-call);
     }
 
 -- ---- an instruction

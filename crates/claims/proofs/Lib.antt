@@ -7,7 +7,7 @@
 --     LedgerProof        ledger
 --     RangesProof        stays-in-range, run-stays-in-range
 --     FaultsProof        fault-numbers
---     WorkedProof        worked (the worked cases)
+--     WorkedProof        worked, worked-returns (the worked cases)
 --     Promised           demand-1, demand-3, promised: all of them
 
 pub mod EndsProof
@@ -26,6 +26,7 @@ mod GrantedSteps
 mod PermissionBits
 mod Leaves
 mod OperationLeaves
+mod OperationStops
 mod CodeNames
 mod Completions
 mod RangeParts

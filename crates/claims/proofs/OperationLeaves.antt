@@ -8,15 +8,17 @@ use borrow.Author.Tests.{leb-true, eqb-true}
 use Rattle.memory.specs.Access.{byteCount}
 use Rattle.memory.specs.declared.access.Size.{Size}
 use Rattle.memory.specs.declared.access.Size.the-variants.{Four, Eight}
-use Rattle.processor.specs.Answer.{ud, ss, gp, cpRstorssp}
+use Rattle.processor.specs.Answer.{ud, ss, gp, cpNearRet, cpRstorssp}
 use Rattle.processor.specs.State.{isLong, widthOf, enabled, usable, plus, minus, next}
 use Rattle.processor.specs.Prog.{done}
 use Rattle.processor.specs.declared.state.State.{State}
 use Rattle.shadow.specs.Incssp.{incssp}
 use Rattle.shadow.specs.Wrss.{wrss}
+use Rattle.shadow.specs.Wruss.{recognised, wruss}
 use Rattle.switches.specs.Rstorssp.{goodToken, rstorssp}
 use Rattle.switches.specs.Saveprevssp.{carry, popHole, newTop, savedToken, leaveToken, saveprevssp}
 use Rattle.calls.specs.Call.{inCode, pushed, runsPast, call}
+use Rattle.calls.specs.Ret.{popFrame, newSsp, ret}
 use Rattle.claims.proofs.Leaves.{either, Leaves, then-leaves, all-leaves, tested-leaves}
 use Rattle.claims.proofs.PointerSums.{plus-below, minus-below, plus-aligned, minus-aligned, bytes-aligned}
 use Rattle.claims.proofs.RangeParts.{InRange}
@@ -90,6 +92,10 @@ minus-of-4 : (s : State) (a : ℕ) (size : Size) → a % 4 ≡ 0 → minus s a (
 unfolding minus
 minus-of-4 s a Four h = minus-aligned (widthOf s) a 4 h refl
 minus-of-4 s a Eight h = minus-aligned (widthOf s) a 8 h refl
+
+size-of-4 : (size : Size) → byteCount size % 4 ≡ 0
+size-of-4 Four = refl
+size-of-4 Eight = refl
 
 of-8-of-4 : (a : ℕ) → a % 8 ≡ 0 → a % 4 ≡ 0
 of-8-of-4 a e = omega arith
@@ -170,3 +176,35 @@ call-leaves target length s =
     kept s _ _ _ _ (target-fits s target inside) (minus-fits s (s .sp) (byteCount (pushed s)))
     (either (Pointer s) (enabled s) _ _ (minus-fits s (s .ssp) (byteCount (pushed s))) (ssp-fits s))
     (λ h. either (λ (n : ℕ). n % 4 ≡ 0) (enabled s) _ _ (minus-of-4 s (s .ssp) (pushed s) (h .aligned)) (h .aligned))))))
+
+-- where it is enabled, past the frame
+abbrev pub pastFrame : State → ℕ
+pastFrame s = cond (enabled s) (plus s (s .ssp) (byteCount (pushed s))) (s .ssp)
+
+frame-leaves : (s : State) (target : ℕ) → Leaves (λ (new : ℕ). new ≡ pastFrame s) (newSsp s target)
+unfolding newSsp popFrame Leaves
+frame-leaves s target = go (enabled s)
+  where
+    go : (t : Bool) → Leaves (λ (new : ℕ). new ≡ cond t (plus s (s .ssp) (byteCount (pushed s))) (s .ssp)) (cond t (popFrame s target) (done (s .ssp)))
+    go true = all-leaves _ _ _ (λ frame. tested-leaves _ (eqb frame target) cpNearRet _ (λ e. refl))
+    go false = refl
+
+pub ret-leaves : (count : ℕ) (s : State) → Leaves (Kept s (pastFrame s)) (ret count s)
+unfolding ret Leaves
+ret-leaves count s =
+    tested-leaves _ (not (runsPast s (s .sp))) ss _ (λ e.
+    all-leaves _ _ _ (λ target.
+    then-leaves _ _ _ _ (frame-leaves s target) (λ ssp is.
+    tested-leaves _ (inCode s target) gp _ (λ inside.
+    rw is (kept s _ _ _ _ (target-fits s target inside) (plus-fits s (plus s (s .sp) (byteCount (pushed s))) count)
+    (either (Pointer s) (enabled s) _ _ (plus-fits s (s .ssp) (byteCount (pushed s))) (ssp-fits s))
+    (λ h. either (λ (n : ℕ). n % 4 ≡ 0) (enabled s) _ _ (plus-of-4 s (s .ssp) (byteCount (pushed s)) (h .aligned) (size-of-4 (pushed s))) (h .aligned)))))))
+
+pub wruss-leaves : (size : Size) (a b length : ℕ) (s : State) → Leaves (Kept s (s .ssp)) (wruss size a b length s)
+unfolding wruss Leaves
+wruss-leaves size a b length s =
+    tested-leaves _ (recognised s) ud _ (λ r.
+    tested-leaves _ (eqb (s .cpl) 0) gp _ (λ kernel.
+    tested-leaves _ (eqb (a % byteCount size) 0) gp _ (λ e.
+    all-leaves _ _ _ (λ x.
+    kept s _ _ _ _ (next-fits s length) (sp-fits s) (ssp-fits s) (λ h. h .aligned)))))

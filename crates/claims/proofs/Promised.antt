@@ -7,7 +7,7 @@ use Rattle.claims.proofs.ListOrderProof.{order-free}
 use Rattle.claims.proofs.LedgerProof.{ledger}
 use Rattle.claims.proofs.RangesProof.{stays-in-range, run-stays-in-range}
 use Rattle.claims.proofs.FaultsProof.{fault-numbers}
-use Rattle.claims.proofs.WorkedProof.{worked}
+use Rattle.claims.proofs.WorkedProof.{worked, worked-returns}
 
 pub demand-1 : Demand1
 demand-1 = record {
@@ -32,4 +32,5 @@ promised = record {
   run-stays-in-range = run-stays-in-range;
   fault-numbers = fault-numbers;
   worked = worked;
+  worked-returns = worked-returns;
 }

@@ -7,23 +7,32 @@ use Rattle.processor.specs.Prog.{_>>=_, interp, operate}
 use Rattle.processor.specs.State.{plus as plusOf, minus as minusOf, next, enabled, usable, permitted, inRange}
 use Rattle.shadow.specs.Incssp.{incssp}
 use Rattle.shadow.specs.Wrss.{wrss}
+use Rattle.shadow.specs.Wruss.{recognised, wruss}
 use Rattle.switches.specs.Rstorssp.{home, goodToken, restoredFlags, rstorssp}
 use Rattle.switches.specs.Saveprevssp.{popHole, newTop, savedToken, leaveToken, saveprevssp}
 use Rattle.calls.specs.Call.{displacement, relative, inCode, runsPast, call}
-use Rattle.replay.specs.Instruction.{instructionAt, oneOf, lengthFits, wordsFit, narrow, modeFits, wellFormed}
+use Rattle.calls.specs.Ret.{popFrame, newSsp, ret}
+use Rattle.replay.specs.Instruction.{instructionAt, oneOf, isQuad, lengthFits, wordsFitFrom9, wordsFit, narrow, modeFits, wellFormed}
 use Rattle.replay.specs.Permission.{writeBit, withoutWrite, hidden, shown}
 use Rattle.replay.specs.Exec.{operationOf, exec, perform}
-use Rattle.replay.specs.Codes.{target, operation}
+use Rattle.replay.specs.Codes.{target, operationFrom9, operation}
 use Rattle.replay.specs.Run.{badWords, check, runFrom, run}
 use Rattle.claims.specs.Worked.{placeIn, lowBytes, over, laidOver, withWords, lentBytes, result, expected, Worked}
+use Rattle.claims.specs.WorkedReturns.{WorkedReturns}
 
-pub worked : Worked
+all-worked : Worked × WorkedReturns
 unfolding scan canonicalBytes listedBytes probe number value write written wrapped plus minus canonical
     pageOf kindOf wrongLength badKind badAddress onPage anyEntry repeated listing inPage spotFrom spot
     _>>=_ interp operate plusOf minusOf next enabled usable permitted inRange
-    incssp wrss home goodToken restoredFlags rstorssp popHole newTop savedToken leaveToken saveprevssp
-    displacement relative inCode runsPast call
-    instructionAt oneOf lengthFits wordsFit narrow modeFits wellFormed
-    writeBit withoutWrite hidden shown operationOf exec perform target operation badWords check runFrom run
+    incssp wrss recognised wruss home goodToken restoredFlags rstorssp popHole newTop savedToken leaveToken saveprevssp
+    displacement relative inCode runsPast call popFrame newSsp ret
+    instructionAt oneOf isQuad lengthFits wordsFitFrom9 wordsFit narrow modeFits wellFormed
+    writeBit withoutWrite hidden shown operationOf exec perform target operationFrom9 operation badWords check runFrom run
     placeIn lowBytes over laidOver withWords lentBytes result expected
-worked = refl
+all-worked = (refl, refl)
+
+pub worked : Worked
+worked = all-worked .0
+
+pub worked-returns : WorkedReturns
+worked-returns = all-worked .1

@@ -9,4 +9,5 @@ pub mod Ledger
 pub mod Ranges
 pub mod Faults
 pub mod Worked
+pub mod WorkedReturns
 pub mod Promises

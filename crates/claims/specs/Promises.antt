@@ -8,6 +8,7 @@ use Rattle.claims.specs.Ledger.{Ledger}
 use Rattle.claims.specs.Ranges.{StaysInRange, RunStaysInRange}
 use Rattle.claims.specs.Faults.{FaultNumbers}
 use Rattle.claims.specs.Worked.{Worked}
+use Rattle.claims.specs.WorkedReturns.{WorkedReturns}
 
 -- what is malformed is refused, nothing is lost, and every run ends
 pub record Demand1 : Type 0 where
@@ -32,3 +33,4 @@ pub record Promises : Type 0 where
   pub run-stays-in-range : RunStaysInRange
   pub fault-numbers : FaultNumbers
   pub worked : Worked
+  pub worked-returns : WorkedReturns
