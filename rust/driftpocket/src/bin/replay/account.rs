@@ -39,12 +39,15 @@ fn moved(step: &Step) -> String {
     let width = step.before.width();
     let up = |old: u64, new: u64| width.wrap(new.wrapping_sub(old));
     let stack = up(step.before.sp, step.after.sp);
-    let shadow = up(step.before.ssp, step.after.ssp);
+    let shadow = match up(step.before.ssp, step.after.ssp) {
+        0 => "SSP stays".to_string(),
+        bytes => format!("SSP by {bytes}"),
+    };
     let released = match step.instruction.a {
         0 => String::new(),
         count => format!(" ({count} of them by the count)"),
     };
-    format!("popped: SP moves up by {stack} bytes{released}, SSP by {shadow}")
+    format!("popped: SP moves up by {stack} bytes{released}, {shadow}")
 }
 
 #[cfg(test)]
@@ -104,7 +107,7 @@ mod tests {
             account(&one),
             [
                 "not compared: shadow stacks are not enabled",
-                "popped: SP moves up by 4 bytes, SSP by 0"
+                "popped: SP moves up by 4 bytes, SSP stays"
             ]
         );
         let counted = account(&run(Instruction::ret_count(3, 16)));

@@ -116,7 +116,7 @@ impl Scene<'_> {
         } else if cpl != 0 {
             let words = format!("CPL is {cpl}, and must be 0");
             Some(because(Vector::Protection, words))
-        } else if address % size != 0 {
+        } else if !address.is_multiple_of(size) {
             let words = format!("the address {address:#x} is no multiple of {size}");
             Some(because(Vector::Protection, words))
         } else {
