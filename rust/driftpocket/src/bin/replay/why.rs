@@ -224,7 +224,7 @@ mod tests {
     use std::collections::BTreeSet;
 
     /// Addresses at the edges of everything.
-    const ADDRESSES: [u64; 14] = [
+    const ADDRESSES: [u64; 15] = [
         0,
         0x1ff0,
         0x1ffc,
@@ -232,6 +232,7 @@ mod tests {
         0x2ffc,
         0x5008,
         0x500c,
+        0x5018,
         0x5ffc,
         0xffff_fff8,
         0xffff_fffc,
@@ -253,6 +254,7 @@ mod tests {
             (0x2ff8, 1 << 47),
             (0x5008, 0x40_0005),
             (0x5010, 1 << 47),
+            (0x5018, 0x40_0004),
         ];
         for (address, value) in numbers {
             pages.write(address, Size::Eight, value).unwrap();
