@@ -68,9 +68,9 @@ extern "C" {
  * other meaning.
  */
 
-#define DRIFTPOCKET_USER_SHADOW 1       /* shadow accesses at CPL 3 */
-#define DRIFTPOCKET_SUPERVISOR_SHADOW 2 /* shadow accesses at CPL 0 to 2 */
-#define DRIFTPOCKET_ORDINARY 3          /* ordinary pushes, at any CPL */
+#define DRIFTPOCKET_USER_SHADOW 1       /* shadow accesses at CPL 3, and WRUSS */
+#define DRIFTPOCKET_SUPERVISOR_SHADOW 2 /* shadow accesses at CPL 0 to 2, but for WRUSS */
+#define DRIFTPOCKET_ORDINARY 3          /* ordinary pushes and pops, at any CPL */
 
 /*
  * ---- The instructions: `words` ----
@@ -87,6 +87,11 @@ extern "C" {
 #define DRIFTPOCKET_WRSSQ 6         /* A: the address; B: the value. Not in mode 1 */
 #define DRIFTPOCKET_CALL_RELATIVE 7 /* A: the displacement, 32 bits in two's complement, so below 2^32. Not in mode 0 */
 #define DRIFTPOCKET_CALL_ABSOLUTE 8 /* A: the target. Not in mode 0 */
+#define DRIFTPOCKET_RET 9           /* no operand. Not in mode 0 */
+#define DRIFTPOCKET_RET_COUNT 10    /* A: how many bytes SP moves up besides the return address, 16 bits, so below 2^16. Not
+                                       in mode 0 */
+#define DRIFTPOCKET_WRUSSD 11       /* A: the address; B: the value, of which the low 4 bytes are stored */
+#define DRIFTPOCKET_WRUSSQ 12       /* A: the address; B: the value. Not in mode 1 */
 
 /*
  * ---- What is refused ----
@@ -106,8 +111,8 @@ extern "C" {
 #define DRIFTPOCKET_REFUSED_ADDRESS 3    /* a page address is not canonical: bits 63 to 47 are not all equal */
 #define DRIFTPOCKET_REFUSED_REPEATED 4   /* two entries have one page address */
 #define DRIFTPOCKET_REFUSED_STATE 5      /* a field is out of range; or, but in a read, `state_len` is not 10 */
-#define DRIFTPOCKET_REFUSED_FORM 6       /* the instruction is not well formed; or is code 2 or 6 in mode 1; or has A or B
-                                            at 2^32 or above in mode 1; or is code 7 or 8 in mode 0 */
+#define DRIFTPOCKET_REFUSED_FORM 6       /* the instruction is not well formed; or is code 2, 6 or 12 in mode 1; or has A or
+                                            B at 2^32 or above in mode 1; or is one of codes 7 to 10 in mode 0 */
 #define DRIFTPOCKET_REFUSED_WORDS 7      /* the word count is no multiple of 4, or there are more than 1,024 instructions */
 #define DRIFTPOCKET_REFUSED_ROOM 8       /* `report_len` is below the words of the report; or a result of a read or a write is
                                             longer than its buffer */
@@ -121,13 +126,17 @@ extern "C" {
 
 #define DRIFTPOCKET_FAULT 256
 
-#define DRIFTPOCKET_UD 6  /* #UD: codes 1 to 6 in mode 0 or while not enabled; WRSS not permitted */
-#define DRIFTPOCKET_SS 12 /* #SS(0): an ordinary push that is not canonical (mode 2) or runs past 2^32 (mode 1) */
-#define DRIFTPOCKET_GP 13 /* #GP(0): alignment, a bad SAVEPREVSSP token, a bad target, a shadow access that is not canonical */
+#define DRIFTPOCKET_UD 6  /* #UD: codes 1 to 6 in mode 0 or while not enabled; WRSS not permitted; codes 11 and 12 in mode 0
+                             or while CR4.CET is 0 */
+#define DRIFTPOCKET_SS 12 /* #SS(0): an ordinary push or pop that is not canonical (mode 2) or runs past 2^32 (mode 1) */
+#define DRIFTPOCKET_GP 13 /* #GP(0): alignment, a bad SAVEPREVSSP token, a bad target, a shadow access that is not canonical,
+                             WRUSS at CPL 1 to 3 */
 #define DRIFTPOCKET_PF 14 /* #PF: a byte on no listed page, or on one of another kind */
-#define DRIFTPOCKET_CP 21 /* #CP(RSTORSSP): the token does not fit */
+#define DRIFTPOCKET_CP 21 /* #CP: RET finds another address on the shadow stack; RSTORSSP's token does not fit */
 
-#define DRIFTPOCKET_CP_RSTORSSP 4 /* the error code of #CP(RSTORSSP). Every other fault has error code 0 */
+/* Error codes. Every other fault has error code 0. */
+#define DRIFTPOCKET_CP_NEAR_RET 1 /* of #CP(NEAR-RET), which RET gives */
+#define DRIFTPOCKET_CP_RSTORSSP 4 /* of #CP(RSTORSSP) */
 
 /*
  * ---- What the caller owes, in every call ----

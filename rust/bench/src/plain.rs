@@ -6,6 +6,7 @@ const PAGE_SIZE: usize = 4096;
 const MAX_PAGES: usize = 16;
 const MAX_INSTRUCTIONS: usize = 1024;
 const OFFSET: u64 = 0xFFF;
+const LOW_16: u64 = 0xFFFF;
 const LOW_32: u64 = 0xFFFF_FFFF;
 
 const USER_SHADOW: u64 = 1;
@@ -32,6 +33,7 @@ enum Stop {
 const UD: Stop = fault(6, 0);
 const SS: Stop = fault(12, 0);
 const GP: Stop = fault(13, 0);
+const CP_NEAR_RET: Stop = fault(21, 1);
 const CP_RSTORSSP: Stop = fault(21, 4);
 
 const fn fault(vector: u64, error: u64) -> Stop {
@@ -164,6 +166,20 @@ impl State {
             SUPERVISOR_SHADOW
         }
     }
+
+    /// How many bytes a call pushes and a return pops.
+    fn return_size(&self) -> usize {
+        if self.is_64_bit() { 8 } else { 4 }
+    }
+
+    /// Whether a call or a return may go there.
+    fn is_target(&self, target: u64) -> bool {
+        if self.is_64_bit() {
+            is_canonical(target)
+        } else {
+            target <= self.code_limit
+        }
+    }
 }
 
 struct Instruction {
@@ -178,18 +194,22 @@ impl Instruction {
     fn is_allowed(&self, mode: u64) -> bool {
         let unused = match self.code {
             1 | 2 => self.a,
-            3 | 7 | 8 => self.b,
-            4 => self.a | self.b,
-            5 | 6 => 0,
+            3 | 7 | 8 | 10 => self.b,
+            4 | 9 => self.a | self.b,
+            5 | 6 | 11 | 12 => 0,
             _ => return false,
         };
         let fits_mode = match mode {
-            0 => self.code < 7,
-            1 => !matches!(self.code, 2 | 6) && self.a <= LOW_32 && self.b <= LOW_32,
+            0 => !matches!(self.code, 7..=10),
+            1 => !matches!(self.code, 2 | 6 | 12) && self.a <= LOW_32 && self.b <= LOW_32,
             _ => true,
         };
-        let is_good_displacement = self.code != 7 || self.a <= LOW_32;
-        (1..=15).contains(&self.length) && unused == 0 && fits_mode && is_good_displacement
+        let is_narrow = match self.code {
+            7 => self.a <= LOW_32,
+            10 => self.a <= LOW_16,
+            _ => true,
+        };
+        (1..=15).contains(&self.length) && unused == 0 && fits_mode && is_narrow
     }
 }
 
@@ -236,11 +256,16 @@ impl Machine<'_> {
     }
 
     fn shadow(&self, first: u64, size: usize) -> Result<Span, Stop> {
-        ensure(!self.state.is_64_bit() || are_canonical(first, size), GP)?;
-        self.span(self.state.shadow_kind(), first, size)
+        self.shadow_of(self.state.shadow_kind(), first, size)
     }
 
-    /// The bytes of an ordinary push, `first` being the moved stack pointer.
+    /// The bytes of a shadow access to pages of this kind.
+    fn shadow_of(&self, kind: u64, first: u64, size: usize) -> Result<Span, Stop> {
+        ensure(!self.state.is_64_bit() || are_canonical(first, size), GP)?;
+        self.span(kind, first, size)
+    }
+
+    /// The bytes of an ordinary push, `first` being the moved stack pointer, or of an ordinary pop.
     fn ordinary(&self, first: u64, size: usize) -> Result<Span, Stop> {
         let is_good = if self.state.is_64_bit() {
             are_canonical(first, size)
@@ -320,14 +345,19 @@ impl Machine<'_> {
         Ok(())
     }
 
+    fn wruss(&mut self, size: usize, address: u64, value: u64) -> Result<(), Stop> {
+        ensure(self.state.cet == 1, UD)?;
+        ensure(self.state.cpl == 0, GP)?;
+        ensure(address.is_multiple_of(size as u64), GP)?;
+        let span = self.shadow_of(USER_SHADOW, address, size)?;
+        self.store(&span, value);
+        Ok(())
+    }
+
     fn call(&mut self, next: u64, target: u64) -> Result<(), Stop> {
         let state = self.state;
-        let (is_good, size) = if state.is_64_bit() {
-            (is_canonical(target), 8)
-        } else {
-            (target <= state.code_limit, 4)
-        };
-        ensure(is_good, GP)?;
+        let size = state.return_size();
+        ensure(state.is_target(target), GP)?;
         let sp = state.minus(state.sp, size as u64);
         let ordinary = self.ordinary(sp, size)?;
         if state.is_enabled() {
@@ -341,6 +371,22 @@ impl Machine<'_> {
         Ok(())
     }
 
+    /// Gives where it returns to. SP moves up by `released` besides what is popped.
+    fn ret(&mut self, released: u64) -> Result<u64, Stop> {
+        let state = self.state;
+        let size = state.return_size();
+        let target = self.load(&self.ordinary(state.sp, size)?);
+        let mut ssp = state.ssp;
+        if state.is_enabled() {
+            ensure(self.load(&self.shadow(ssp, size)?) == target, CP_NEAR_RET)?;
+            ssp = state.plus(ssp, size as u64);
+        }
+        ensure(state.is_target(target), GP)?;
+        self.state.ssp = ssp;
+        self.state.sp = state.plus(state.sp, size as u64 + released);
+        Ok(target)
+    }
+
     /// One instruction. Nothing has changed where it stops.
     fn step(&mut self, instruction: &Instruction) -> Result<(), Stop> {
         let state = self.state;
@@ -348,7 +394,7 @@ impl Machine<'_> {
         ensure(state.mode != 0, UD)?;
         let Instruction { code, length, a, b } = *instruction;
         let next = state.plus(state.ip, length);
-        let ip = match code {
+        let mut ip = match code {
             7 => state.wrap(next.wrapping_add_signed(i64::from(a as u32 as i32))),
             8 => a,
             _ => next,
@@ -360,7 +406,10 @@ impl Machine<'_> {
             4 => self.saveprevssp()?,
             5 => self.wrss(4, a, b)?,
             6 => self.wrss(8, a, b)?,
-            _ => self.call(next, ip)?,
+            7 | 8 => self.call(next, ip)?,
+            9 | 10 => ip = self.ret(a)?,
+            11 => self.wruss(4, a, b)?,
+            _ => self.wruss(8, a, b)?,
         }
         self.state.ip = ip;
         Ok(())

@@ -3,8 +3,10 @@
 use driftpocket_bench::{REPLAYS, outcome};
 
 const MODE: usize = 0;
+const CPL: usize = 1;
 const CET: usize = 2;
 const U_CET: usize = 3;
+const S_CET: usize = 4;
 const IP: usize = 5;
 const SP: usize = 6;
 const SSP: usize = 7;
@@ -92,12 +94,14 @@ const UD: [u64; 3] = [6, 0, 0];
 const SS: [u64; 3] = [12, 0, 0];
 const GP: [u64; 3] = [13, 0, 0];
 const CP: [u64; 3] = [21, 4, 0];
+const CP_NEAR_RET: [u64; 3] = [21, 1, 0];
 
 const fn page_fault(address: u64) -> [u64; 3] {
     [14, 0, address]
 }
 
 const SAVEPREVSSP: [u64; 4] = [4, 5, 0, 0];
+const RET: [u64; 4] = [9, 5, 0, 0];
 
 const fn incsspq(count: u64) -> [u64; 4] {
     [2, 5, 0, count]
@@ -105,6 +109,29 @@ const fn incsspq(count: u64) -> [u64; 4] {
 
 const fn rstorssp(address: u64) -> [u64; 4] {
     [3, 5, address, 0]
+}
+
+const fn ret_count(bytes: u64) -> [u64; 4] {
+    [10, 5, bytes, 0]
+}
+
+/// IP moves on by five in `leads_to`; a return goes to `target` whatever its length.
+fn returned(scene: Scene, target: u64) -> Scene {
+    scene.with(IP, target - 5)
+}
+
+/// A return address on both stacks: at 5008 and at 1FE8.
+fn called() -> Scene {
+    Scene::new(0x1FE8)
+        .with(SP, 0x5008)
+        .with(CODE_LIMIT, 0xFFFF_FFFF)
+        .holding_word(0x5008, 0x40_0005)
+        .holding_word(0x1FE8, 0x40_0005)
+}
+
+/// Supervisor code without a shadow stack of its own.
+fn kernel() -> Scene {
+    Scene::new(0x1FF0).with(CPL, 0).with(U_CET, 0)
 }
 
 #[test]
@@ -200,6 +227,113 @@ fn p10_to_p12_call() {
 }
 
 #[test]
+fn returns() {
+    let start = called();
+    let after = returned(start.clone(), 0x40_0005)
+        .with(SP, 0x5010)
+        .with(SSP, 0x1FF0);
+    start.leads_to(&[RET], &after);
+    start.leads_to(&[ret_count(0)], &after);
+    start.leads_to(&[ret_count(0xFFFF)], &after.with(SP, 0x1_500F));
+    let overwritten = start.clone().holding(0x500F, [1]);
+    overwritten.faults(RET, CP_NEAR_RET);
+    // Without a shadow stack the ordinary one is believed.
+    let off = overwritten.holding_word(0x5008, 0x41_4141).with(U_CET, 2);
+    let after = returned(off.clone(), 0x41_4141).with(SP, 0x5010);
+    off.leads_to(&[RET], &after);
+    let call_and_back = start.with(IP, 0x40_0000);
+    let (report, after) = call_and_back.run(&[[7, 5, 0x10, 0], RET, RET]);
+    assert_eq!((report, after.state[IP]), ([3, 0, 0, 0, 0], 0x40_0005));
+    assert_eq!((after.state[SP], after.state[SSP]), (0x5010, 0x1FF0));
+}
+
+#[test]
+fn returns_fault_in_the_order_of_their_steps() {
+    let start = called();
+    let off_stack = start.clone().with(SP, 0x5FFC);
+    off_stack.clone().faults(RET, page_fault(0x6000));
+    let nowhere = off_stack.with(SSP, 0x3000);
+    nowhere.faults(RET, page_fault(0x6000));
+    start
+        .clone()
+        .with(SP, 0x2000)
+        .faults(RET, page_fault(0x2000));
+    start
+        .clone()
+        .with(SSP, 0x3000)
+        .faults(RET, page_fault(0x3000));
+    start
+        .clone()
+        .with(SSP, 0x5008)
+        .faults(RET, page_fault(0x5008));
+    start.clone().with(SSP, 1 << 47).faults(RET, GP);
+    start.clone().with(SP, (1 << 47) - 7).faults(RET, SS);
+    let far = start.holding_word(0x5008, 1 << 47);
+    far.faults(RET, CP_NEAR_RET);
+    far.holding_word(0x1FE8, 1 << 47).faults(RET, GP);
+}
+
+#[test]
+fn returns_in_mode_1() {
+    let start = called().with(MODE, 1).with(CODE_LIMIT, 0x40_0005);
+    // Four bytes are popped and compared, and no more.
+    let start = start.holding(0x500C, [1]).holding(0x1FEC, [2]);
+    let after = returned(start.clone(), 0x40_0005)
+        .with(SP, 0x500C)
+        .with(SSP, 0x1FEC);
+    start.leads_to(&[RET], &after);
+    start.leads_to(&[ret_count(8)], &after.with(SP, 0x5014));
+    start.clone().with(CODE_LIMIT, 0x40_0004).faults(RET, GP);
+    start.clone().with(SP, 0xFFFF_FFFD).faults(RET, SS);
+    let last = start.with(SP, 0xFFFF_FFFC);
+    last.faults(RET, page_fault(0xFFFF_FFFC));
+}
+
+#[test]
+fn released_bytes_are_not_looked_at() {
+    let (_, after) = called().run(&[ret_count(0x1000)]);
+    assert_eq!(after.state[SP], 0x6010);
+    let page = [0xFFFF_F003];
+    let state = [1, 3, 0, 0, 0, 0, 0xFFFF_FFF0, 0, 0, 0];
+    for (_, replay) in REPLAYS {
+        let after = outcome(replay, &state, &page, &[0; 4096], &ret_count(0x20));
+        assert_eq!((after.answer, after.state[SP]), (0, 0x14));
+    }
+}
+
+#[test]
+fn wruss() {
+    let wrussd = [11, 5, 0x2FF4, 0x1_2345_6789];
+    let start = kernel();
+    let four = start.clone().holding(0x2FF4, [0x89, 0x67, 0x45, 0x23]);
+    start.leads_to(&[wrussd], &four);
+    let eight = start.clone().holding_word(0x2FF8, !0);
+    start.leads_to(&[[12, 5, 0x2FF8, !0]], &eight);
+    for cet in 0..4 {
+        start
+            .clone()
+            .with(U_CET, cet)
+            .with(S_CET, 3 - cet)
+            .leads_to(
+                &[wrussd],
+                &four.clone().with(U_CET, cet).with(S_CET, 3 - cet),
+            );
+    }
+    for cpl in 1..=3 {
+        let user = start.clone().with(CPL, cpl).with(U_CET, 3).with(S_CET, 3);
+        user.faults(wrussd, GP);
+        user.with(CET, 0).faults(wrussd, UD);
+    }
+    start.faults([12, 5, 0x2FF4, 0], GP);
+    start.faults([11, 5, 0x2FF6, 0], GP);
+    start.faults([12, 5, 1 << 47, 0], GP);
+    start.faults([12, 5, 0x5000, 0], page_fault(0x5000));
+    start.faults([12, 5, 0x3000, 0], page_fault(0x3000));
+    let narrow = start.with(MODE, 1);
+    narrow.leads_to(&[[11, 5, 0x2FF4, 0x2345_6789]], &four.with(MODE, 1));
+}
+
+#[test]
 fn displacements_are_signed() {
     let start = Scene::new(0x1FF0).with(IP, 0x40_0000).with(SP, 0x5010);
     for (displacement, target) in [
@@ -231,7 +365,7 @@ fn refusal_6_comes_before_faults() {
     }
     let malformed = [
         [0, 5, 0, 0],
-        [9, 5, 0, 0],
+        [13, 5, 0, 0],
         [4, 0, 0, 0],
         [4, 16, 0, 0],
         [4, 5, 1, 0],
@@ -240,18 +374,39 @@ fn refusal_6_comes_before_faults() {
         [3, 5, 0, 1],
         [7, 5, 1 << 32, 0],
         [8, 5, 0, 1],
+        [9, 5, 1, 0],
+        [9, 5, 0, 1],
+        [10, 5, 1 << 16, 0],
+        [10, 5, 0, 1],
+        [11, 16, 0, 0],
+        [!0, 5, 0, 0],
     ];
     for instruction in malformed {
         off.is_refused(instruction, 6);
     }
+}
+
+#[test]
+fn refusal_6_for_what_the_mode_does_not_allow() {
+    let off = Scene::new(0x1FF0).with(CET, 0);
     let narrow = off.clone().with(MODE, 1);
-    for instruction in [[2, 5, 0, 0], [6, 5, 0, 0], [3, 5, 1 << 32, 0]] {
+    for instruction in [
+        [2, 5, 0, 0],
+        [6, 5, 0, 0],
+        [12, 5, 0, 0],
+        [3, 5, 1 << 32, 0],
+        [11, 5, 0, 1 << 32],
+    ] {
         narrow.is_refused(instruction, 6);
         off.faults(instruction, UD);
     }
     let real = off.with(MODE, 0);
-    real.is_refused([7, 5, 0, 0], 6);
-    real.faults([3, 5, 1 << 32, 0], UD);
+    for code in 7..=10 {
+        real.is_refused([code, 5, 0, 0], 6);
+    }
+    for code in [3, 11, 12] {
+        real.faults([code, 5, 1 << 32, 0], UD);
+    }
 }
 
 #[test]
@@ -345,6 +500,19 @@ fn each_cpl_has_its_register_and_its_kind() {
             report(&off, &[0x1000 | kind], 4096, &incsspq(0)),
             [0, 0, 6, 0, 0]
         );
+    }
+}
+
+#[test]
+fn wruss_goes_to_user_pages_and_no_others() {
+    let state = [2, 0, 1, 0, 3, 0, 0, 0x1FF0, 0, 0];
+    for (kind, expected) in [
+        (1, [1, 0, 0, 0, 0]),
+        (2, [0, 0, 14, 0, 0x1FF0]),
+        (3, [0, 0, 14, 0, 0x1FF0]),
+    ] {
+        let words = [12, 5, 0x1FF0, 7];
+        assert_eq!(report(&state, &[0x1000 | kind], 4096, &words), expected);
     }
 }
 

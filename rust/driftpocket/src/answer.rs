@@ -8,6 +8,9 @@ pub const REPORT_WORDS: usize = 5;
 /// What the library adds to a vector when it answers with a fault.
 const FAULT: u64 = 256;
 
+/// The error code of RET's #CP.
+const NEAR_RET: u64 = 1;
+
 /// The error code of RSTORSSP's #CP.
 const RSTORSSP: u64 = 4;
 
@@ -152,7 +155,7 @@ impl fmt::Display for Vector {
 pub struct Fault {
     /// Its vector.
     pub vector: Vector,
-    /// 4 for RSTORSSP's #CP, otherwise 0.
+    /// 1 for RET's #CP, 4 for RSTORSSP's, otherwise 0.
     pub error_code: u64,
     /// For #PF the address of the first byte that could not be reached,
     /// otherwise 0.
@@ -168,6 +171,9 @@ impl fmt::Display for Fault {
             (Vector::Stack | Vector::Protection, _) => write!(out, "{name}({code:#x})"),
             (Vector::Page, 0) => write!(out, "{name} at {address:#x}"),
             (Vector::Page, _) => write!(out, "{name} at {address:#x}, error code {code:#x}"),
+            (Vector::ControlProtection, NEAR_RET) => {
+                write!(out, "{name}(NEAR-RET), error code {code}")
+            }
             (Vector::ControlProtection, RSTORSSP) => {
                 write!(out, "{name}(RSTORSSP), error code {code}")
             }
@@ -301,9 +307,14 @@ mod tests {
             (fault(Vector::Protection, 0, 0), "#GP(0)"),
             (fault(Vector::Page, 0, 0x3000), "#PF at 0x3000"),
             (
+                fault(Vector::ControlProtection, 1, 0),
+                "#CP(NEAR-RET), error code 1",
+            ),
+            (
                 fault(Vector::ControlProtection, 4, 0),
                 "#CP(RSTORSSP), error code 4",
             ),
+            (fault(Vector::ControlProtection, 2, 0), "#CP, error code 2"),
         ];
         for (fault, text) in cases {
             assert_eq!(fault.to_string(), text);

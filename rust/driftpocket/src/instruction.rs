@@ -14,7 +14,7 @@ pub const MOST_INSTRUCTIONS: usize = 1024;
 /// is answered by the library with refusal 6.
 #[derive(Clone, Copy, Debug, Default, PartialEq, Eq)]
 pub struct Instruction {
-    /// What it does: 1 to 8.
+    /// What it does: 1 to 12.
     pub code: u64,
     /// How many bytes it has: 1 to 15.
     pub length: u64,
@@ -34,6 +34,10 @@ pub(crate) mod code {
     pub const WRSSQ: u64 = 6;
     pub const CALL_RELATIVE: u64 = 7;
     pub const CALL_ABSOLUTE: u64 = 8;
+    pub const RET: u64 = 9;
+    pub const RET_COUNT: u64 = 10;
+    pub const WRUSSD: u64 = 11;
+    pub const WRUSSQ: u64 = 12;
 }
 
 impl Instruction {
@@ -80,6 +84,29 @@ impl Instruction {
         Instruction::new(code::CALL_ABSOLUTE, length, target, 0)
     }
 
+    /// RET to the address on top of the stack.
+    pub fn ret(length: u64) -> Instruction {
+        Instruction::new(code::RET, length, 0, 0)
+    }
+
+    /// RET that moves the stack pointer up by so many bytes besides the return
+    /// address.
+    pub fn ret_count(length: u64, bytes: u16) -> Instruction {
+        Instruction::new(code::RET_COUNT, length, u64::from(bytes), 0)
+    }
+
+    /// WRUSSD: writes the low 4 bytes of a value to a shadow stack of user
+    /// code, from CPL 0.
+    pub fn wrussd(length: u64, address: u64, value: u64) -> Instruction {
+        Instruction::new(code::WRUSSD, length, address, value)
+    }
+
+    /// WRUSSQ: writes the 8 bytes of a value to a shadow stack of user code,
+    /// from CPL 0.
+    pub fn wrussq(length: u64, address: u64, value: u64) -> Instruction {
+        Instruction::new(code::WRUSSQ, length, address, value)
+    }
+
     /// An instruction of these words.
     fn new(code: u64, length: u64, a: u64, b: u64) -> Instruction {
         Instruction { code, length, a, b }
@@ -106,6 +133,9 @@ impl Instruction {
             code::WRSSD => "WRSSD",
             code::WRSSQ => "WRSSQ",
             code::CALL_RELATIVE | code::CALL_ABSOLUTE => "CALL",
+            code::RET | code::RET_COUNT => "RET",
+            code::WRUSSD => "WRUSSD",
+            code::WRUSSQ => "WRUSSQ",
             _ => "unknown",
         }
     }
@@ -121,8 +151,8 @@ impl Instruction {
         match (self.code, self.a, self.b) {
             (code::INCSSPD | code::INCSSPQ, 0, count) => Some(format!("count {count:#x}")),
             (code::RSTORSSP, address, 0) => Some(format!("{address:#x}")),
-            (code::SAVEPREVSSP, 0, 0) => Some(String::new()),
-            (code::WRSSD | code::WRSSQ, address, value) => {
+            (code::SAVEPREVSSP | code::RET, 0, 0) => Some(String::new()),
+            (code::WRSSD | code::WRSSQ | code::WRUSSD | code::WRUSSQ, address, value) => {
                 Some(format!("{value:#x} to {address:#x}"))
             }
             (code::CALL_RELATIVE, _, 0) => self.displacement().map(|by| {
@@ -130,6 +160,7 @@ impl Instruction {
                 format!("relative {sign}{:#x}", by.unsigned_abs())
             }),
             (code::CALL_ABSOLUTE, target, 0) => Some(format!("absolute {target:#x}")),
+            (code::RET_COUNT, count @ 0..=0xffff, 0) => Some(format!("count {count:#x}")),
             _ => None,
         }
     }
@@ -174,6 +205,11 @@ mod tests {
             (Instruction::call_relative(5, -1), [7, 5, 0xffff_ffff, 0]),
             (Instruction::call_relative(5, i32::MIN), [7, 5, 1 << 31, 0]),
             (Instruction::call_absolute(2, 0x1234), [8, 2, 0x1234, 0]),
+            (Instruction::ret(1), [9, 1, 0, 0]),
+            (Instruction::ret_count(3, 0), [10, 3, 0, 0]),
+            (Instruction::ret_count(3, u16::MAX), [10, 3, 0xffff, 0]),
+            (Instruction::wrussd(6, 0x2ff4, 7), [11, 6, 0x2ff4, 7]),
+            (Instruction::wrussq(7, 0x2ff8, 8), [12, 7, 0x2ff8, 8]),
         ];
         for (instruction, words) in cases {
             assert_eq!(instruction.to_words(), words);
@@ -200,6 +236,20 @@ mod tests {
                 Instruction::call_absolute(2, 0x1234),
                 "CALL absolute 0x1234",
             ),
+            (Instruction::ret(1), "RET"),
+            (Instruction::ret_count(3, 0x10), "RET count 0x10"),
+            (Instruction::ret_count(3, u16::MAX), "RET count 0xffff"),
+            (Instruction::wrussd(6, 0x2ff4, 7), "WRUSSD 0x7 to 0x2ff4"),
+            (Instruction::wrussq(7, 0x2ff8, 7), "WRUSSQ 0x7 to 0x2ff8"),
+        ];
+        for (instruction, text) in cases {
+            assert_eq!(instruction.to_string(), text);
+        }
+    }
+
+    #[test]
+    fn texts_of_words_without_a_meaning() {
+        let cases = [
             (
                 Instruction::from_words([4, 4, 1, 0]),
                 "SAVEPREVSSP (code 4, A 0x1, B 0x0)",
@@ -209,8 +259,16 @@ mod tests {
                 "CALL (code 7, A 0x100000000, B 0x0)",
             ),
             (
-                Instruction::from_words([99, 4, 0, 2]),
-                "unknown (code 99, A 0x0, B 0x2)",
+                Instruction::from_words([9, 1, 8, 0]),
+                "RET (code 9, A 0x8, B 0x0)",
+            ),
+            (
+                Instruction::from_words([10, 3, 1 << 16, 0]),
+                "RET (code 10, A 0x10000, B 0x0)",
+            ),
+            (
+                Instruction::from_words([13, 4, 0, 2]),
+                "unknown (code 13, A 0x0, B 0x2)",
             ),
         ];
         for (instruction, text) in cases {

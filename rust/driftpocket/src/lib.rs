@@ -55,6 +55,43 @@
 //! # Ok(())
 //! # }
 //! ```
+//!
+//! # A return address that was overwritten
+//!
+//! A call puts its return address on both stacks, and a return compares them.
+//!
+//! ```
+//! use driftpocket::{Instruction, Kind, PageError, PageList, Size, State, run};
+//!
+//! # fn main() -> Result<(), PageError> {
+//! let mut pages = PageList::new();
+//! pages.push(0x1000, Kind::UserShadow)?;
+//! pages.push(0x5000, Kind::Ordinary)?;
+//!
+//! let mut state = State {
+//!     mode: 2,
+//!     cpl: 3,
+//!     cet: 1,
+//!     ucet: 1,
+//!     ip: 0x40_0000,
+//!     sp: 0x5010,
+//!     ssp: 0x1ff0,
+//!     ..State::default()
+//! };
+//!
+//! let list = [Instruction::call_relative(5, 0x10), Instruction::ret(1)];
+//! let outcome = run(&mut state, &mut pages, &list);
+//! assert_eq!(outcome.to_string(), "2 completed");
+//! assert_eq!((state.ip, state.sp, state.ssp), (0x40_0005, 0x5010, 0x1ff0));
+//!
+//! // Once more, and now something writes over the ordinary stack in between.
+//! run(&mut state, &mut pages, &list[..1]);
+//! pages.write(0x5008, Size::Eight, 0x41_4141)?;
+//! let outcome = run(&mut state, &mut pages, &list[1..]);
+//! assert_eq!(outcome.to_string(), "0 completed, then #CP(NEAR-RET), error code 1");
+//! # Ok(())
+//! # }
+//! ```
 
 #![deny(missing_docs)]
 #![deny(unsafe_code)]

@@ -22,8 +22,11 @@ pub enum Action {
 /// Which stack an access belongs to.
 #[derive(Clone, Copy, Debug, PartialEq, Eq)]
 pub enum Stack {
-    /// The shadow stack.
+    /// The shadow stack of this CPL.
     Shadow,
+    /// A shadow stack of user code, reached from CPL 0 as user code would
+    /// reach it.
+    UserShadow,
     /// The ordinary stack.
     Ordinary,
 }
@@ -53,6 +56,7 @@ impl fmt::Display for Access {
         };
         let stack = match self.stack {
             Stack::Shadow => "shadow",
+            Stack::UserShadow => "user shadow",
             Stack::Ordinary => "ordinary",
         };
         let (bytes, address, value) = (self.size.bytes(), self.address, self.value);
@@ -67,8 +71,9 @@ impl fmt::Display for Access {
 /// state and the pages before it.
 ///
 /// Nothing comes back if the code is unknown or a loaded byte lies on no page.
-/// The library completes no such instruction. What comes back for others that
-/// it did not complete means nothing.
+/// The library completes no such instruction. For a RET that ended in #CP the
+/// two loads come back whose values differ. What comes back for others that it
+/// did not complete means nothing.
 pub fn of(instruction: &Instruction, state: &State, pages: &PageList) -> Option<Vec<Access>> {
     let mut list = List {
         state,
@@ -83,6 +88,9 @@ pub fn of(instruction: &Instruction, state: &State, pages: &PageList) -> Option<
         code::WRSSD => list.store(Stack::Shadow, Size::Four, instruction.a, instruction.b),
         code::WRSSQ => list.store(Stack::Shadow, Size::Eight, instruction.a, instruction.b),
         code::CALL_RELATIVE | code::CALL_ABSOLUTE => list.call(state.next(instruction.length)),
+        code::RET | code::RET_COUNT => list.ret()?,
+        code::WRUSSD => list.store(Stack::UserShadow, Size::Four, instruction.a, instruction.b),
+        code::WRUSSQ => list.store(Stack::UserShadow, Size::Eight, instruction.a, instruction.b),
         _ => return None,
     }
     Some(list.accesses)
@@ -112,6 +120,14 @@ fn repeat(access: &Access, pages: &mut PageList) -> bool {
     }
 }
 
+/// How many bytes a return address has in this state.
+fn return_size(state: &State) -> Size {
+    match state.width() {
+        Width::Bits32 => Size::Four,
+        Width::Bits64 => Size::Eight,
+    }
+}
+
 /// A list in the making. No operation loads a byte that it stored before, so
 /// every load reads the pages as they were.
 struct List<'run> {
@@ -124,17 +140,17 @@ impl List<'_> {
     /// INCSSP: the first element and, if any is dropped, the last of them.
     fn incssp(&mut self, size: Size, count: u64) -> Option<()> {
         let range = count % 256;
-        self.load(size, self.state.ssp)?;
+        self.load(Stack::Shadow, size, self.state.ssp)?;
         if let Some(others) = range.checked_sub(1) {
             let last = self.state.ssp.wrapping_add(size.bytes() * others);
-            self.load(size, last)?;
+            self.load(Stack::Shadow, size, last)?;
         }
         Some(())
     }
 
     /// RSTORSSP: the token, which becomes one of the old pointer.
     fn rstorssp(&mut self, address: u64) -> Option<()> {
-        self.load(Size::Eight, address)?;
+        self.load(Stack::Shadow, Size::Eight, address)?;
         let old = self.state.ssp.wrapping_add(self.long_bit() + 2);
         self.store(Stack::Shadow, Size::Eight, address, self.wrap(old));
         Some(())
@@ -143,9 +159,10 @@ impl List<'_> {
     /// SAVEPREVSSP: the token, the hole above it if CF is set, and what goes
     /// to the previous stack.
     fn saveprevssp(&mut self) -> Option<()> {
-        let token = self.load(Size::Eight, self.state.ssp)?;
+        let ssp = self.state.ssp;
+        let token = self.load(Stack::Shadow, Size::Eight, ssp)?;
         if self.state.carry() {
-            self.load(Size::Four, self.state.ssp.wrapping_add(8))?;
+            self.load(Stack::Shadow, Size::Four, ssp.wrapping_add(8))?;
         }
         let old = token & !3;
         let place = (old & !7).wrapping_sub(8);
@@ -157,15 +174,23 @@ impl List<'_> {
     /// CALL: the return address, on the ordinary stack and, if enabled, on the
     /// shadow stack.
     fn call(&mut self, next: u64) {
-        let size = match self.state.width() {
-            Width::Bits32 => Size::Four,
-            Width::Bits64 => Size::Eight,
-        };
+        let size = return_size(self.state);
         let below = |pointer: u64| pointer.wrapping_sub(size.bytes());
         self.store(Stack::Ordinary, size, below(self.state.sp), next);
         if self.state.is_enabled() {
             self.store(Stack::Shadow, size, below(self.state.ssp), next);
         }
+    }
+
+    /// RET: the return address, from the ordinary stack and, if enabled, from
+    /// the shadow stack. The bytes that a count releases are not loaded.
+    fn ret(&mut self) -> Option<()> {
+        let size = return_size(self.state);
+        self.load(Stack::Ordinary, size, self.state.sp)?;
+        if self.state.is_enabled() {
+            self.load(Stack::Shadow, size, self.state.ssp)?;
+        }
+        Some(())
     }
 
     /// The mark of tokens in 64-bit mode.
@@ -178,12 +203,12 @@ impl List<'_> {
         self.state.width().wrap(number)
     }
 
-    /// Lists a load from the shadow stack, and gives what it loads.
-    fn load(&mut self, size: Size, address: u64) -> Option<u64> {
+    /// Lists a load, and gives what it loads.
+    fn load(&mut self, stack: Stack, size: Size, address: u64) -> Option<u64> {
         let address = self.wrap(address);
         let width = self.state.width();
         let value = self.pages.read_wrapped(address, size, width)?;
-        self.list(Action::Load, Stack::Shadow, size, address, value);
+        self.list(Action::Load, stack, size, address, value);
         Some(value)
     }
 
@@ -325,11 +350,51 @@ mod tests {
     }
 
     #[test]
+    fn returns() {
+        let mut pages = pages();
+        pages.write(0x5010, Size::Eight, 0x1_0040_0005).unwrap();
+        pages.write(0x1ff0, Size::Eight, 0x2_0040_0005).unwrap();
+        let enabled = state(2, 0x1ff0);
+        let ordinary = "load 0x100400005, 8 bytes, from ordinary 0x5010";
+        let shadow = "load 0x200400005, 8 bytes, from shadow 0x1ff0";
+        for ret in [Instruction::ret(1), Instruction::ret_count(3, 0xffff)] {
+            assert_eq!(texts(ret, &enabled, &pages), [ordinary, shadow]);
+            let off = State { cet: 0, ..enabled };
+            assert_eq!(texts(ret, &off, &pages), [ordinary]);
+            let narrow = texts(ret, &State { mode: 1, ..enabled }, &pages);
+            assert_eq!(
+                narrow,
+                [
+                    "load 0x400005, 4 bytes, from ordinary 0x5010",
+                    "load 0x400005, 4 bytes, from shadow 0x1ff0"
+                ]
+            );
+        }
+    }
+
+    #[test]
+    fn writes_to_the_stacks_of_user_code() {
+        let kernel = State {
+            cpl: 0,
+            ucet: 0,
+            ..state(2, 0)
+        };
+        let value = 0x1_0000_0007;
+        let four = texts(Instruction::wrussd(6, 0x2ff4, value), &kernel, &pages());
+        assert_eq!(four, ["store 0x7, 4 bytes, to user shadow 0x2ff4"]);
+        let eight = texts(Instruction::wrussq(7, 0x2ff8, value), &kernel, &pages());
+        let wanted = "store 0x100000007, 8 bytes, to user shadow 0x2ff8";
+        assert_eq!(eight, [wanted]);
+    }
+
+    #[test]
     fn what_cannot_have_completed_has_no_list() {
-        let unknown = Instruction::from_words([9, 1, 0, 0]);
+        let unknown = Instruction::from_words([13, 1, 0, 0]);
         assert_eq!(of(&unknown, &state(2, 0x1ff0), &pages()), None);
         let off_the_pages = Instruction::incsspq(5, 0);
         assert_eq!(of(&off_the_pages, &state(2, 0x3000), &pages()), None);
+        let ret = Instruction::ret(1);
+        assert_eq!(of(&ret, &state(2, 0x3000), &pages()), None);
     }
 
     #[test]

@@ -4,7 +4,8 @@
 mod common;
 
 use common::{pages, user};
-use driftpocket::{Instruction, Kind, PageList, Size, State, run, trace};
+use driftpocket::trace::{self, Access, Action, Stack};
+use driftpocket::{Instruction, Kind, PageList, Size, State, run};
 
 /// Numbers that look random.
 struct Dice(u64);
@@ -41,15 +42,19 @@ impl Dice {
         let length = 1 + self.below(15);
         let address = self.address();
         let value = self.below(u64::from(u32::MAX));
-        match self.below(if narrow { 7 } else { 9 }) {
+        match self.below(if narrow { 12 } else { 15 }) {
             0 => Instruction::incsspd(length, self.below(4)),
             1 => Instruction::saveprevssp(length),
             2 | 3 => Instruction::rstorssp(length, address & !7),
             4 => Instruction::wrssd(length, address, value),
             5 => Instruction::call_relative(length, value as i32 % 0x1000),
             6 => Instruction::call_absolute(length, value),
-            7 => Instruction::incsspq(length, self.below(4)),
-            _ => Instruction::wrssq(length, address, value << 20),
+            7 | 8 => Instruction::ret(length),
+            9 | 10 => Instruction::ret_count(length, self.pick(&[0, 8, 0x1000, u16::MAX])),
+            11 => Instruction::wrussd(length, address, value),
+            12 => Instruction::incsspq(length, self.below(4)),
+            13 => Instruction::wrssq(length, address, value << 20),
+            _ => Instruction::wrussq(length, address, value << 20),
         }
     }
 
@@ -58,7 +63,9 @@ impl Dice {
         let mode = 1 + self.below(2);
         State {
             mode,
+            cpl: self.pick(&[3, 3, 3, 0]),
             ucet: self.pick(&[3, 3, 3, 2]),
+            scet: self.pick(&[3, 2]),
             sp: 0x5000 + self.below(0x1008),
             flags: self.below(2),
             ..user(self.address() & !3 & 0xffff_ffff)
@@ -74,6 +81,7 @@ impl Dice {
             (0xffff_f000, Kind::UserShadow),
             (0, Kind::UserShadow),
             (1 << 32, Kind::UserShadow),
+            (0x3000, Kind::SupervisorShadow),
         ]);
         for _ in 0..60 {
             let place = self.address() & !7;
@@ -88,7 +96,8 @@ impl Dice {
 #[test]
 fn every_completed_instruction_is_accounted_for() {
     let mut dice = Dice(0x9e37_79b9_7f4a_7c15);
-    let mut completed = [0; 9];
+    let mut completed = [0; 13];
+    let mut called = 0;
     for _ in 0..3000 {
         let mut state = dice.state();
         let mut pages = dice.pages(state.mode);
@@ -106,9 +115,25 @@ fn every_completed_instruction_is_accounted_for() {
                 "{instruction} from {opening:?}: {accesses:?}"
             );
             completed[instruction.code as usize] += 1;
+            called += u64::from(is_compared(&accesses));
         }
     }
     for (code, count) in completed.iter().enumerate().skip(1) {
         assert!(*count > 20, "code {code} completed {count} times");
+    }
+    assert!(called > 100, "{called} returns to where a call came from");
+}
+
+/// Whether these are the loads of a RET that was compared, and went to where
+/// something stood.
+fn is_compared(accesses: &[Access]) -> bool {
+    match accesses {
+        [ordinary, shadow] => {
+            ordinary.stack == Stack::Ordinary
+                && ordinary.action == Action::Load
+                && ordinary.value != 0
+                && ordinary.value == shadow.value
+        }
+        _ => false,
     }
 }

@@ -135,6 +135,56 @@ fn a_run_that_does_not_complete() {
 }
 
 #[test]
+fn a_call_and_its_return() {
+    for (sheet, end) in [
+        ("matching", "\ncount: 4 of 4\n"),
+        ("byte-count", "\ncount: 2 of 2\n"),
+        ("mode-1", "\ncount: 2 of 2\n"),
+        ("not-enabled", "\ncount: 1 of 1\n"),
+    ] {
+        let output = replay(&[&format!("sheets/returns/{sheet}.sheet")]);
+        assert_eq!(output.status.code(), Some(0), "{sheet}");
+        assert!(output.stderr.is_empty());
+        let text = shown(&output);
+        assert!(text.contains(end), "{text}");
+        assert!(text.contains("\n     popped: SP moves up by "), "{text}");
+    }
+}
+
+#[test]
+fn returns_and_user_writes_that_do_not_complete() {
+    for (sheet, parts) in [
+        (
+            "returns/overwritten",
+            [
+                "\nanswer: 277 (refusal 0, vector 21, error code 1, address 0x0)\n",
+                " 0x414141 at ordinary 0x5008 and 0x400005 at shadow 0x1fe8\n",
+            ],
+        ),
+        (
+            "kernel/cpl-3",
+            [
+                "\nanswer: 269 (refusal 0, vector 13, error code 0, address 0x0)\n",
+                "\n     why: CPL is 3, and must be 0\n",
+            ],
+        ),
+        (
+            "refused/refusal-6-count",
+            [
+                "\nanswer: 6 (refusal 6, ",
+                "\n  there: field 4 (A) 0x10000\n  expected: a byte count below 2^16\n",
+            ],
+        ),
+    ] {
+        let output = replay(&[&format!("sheets/{sheet}.sheet")]);
+        assert_eq!(output.status.code(), Some(1), "{sheet}");
+        assert!(output.stderr.is_empty());
+        let text = shown(&output);
+        assert!(parts.iter().all(|part| text.contains(part)), "{text}");
+    }
+}
+
+#[test]
 fn a_text_that_is_no_sheet() {
     let output = replay_with(&["-"], b"sheet\tx0000000000000001\nstate\t7E12\n");
     assert_eq!(output.status.code(), Some(1));

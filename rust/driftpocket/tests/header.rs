@@ -5,7 +5,7 @@ mod common;
 use driftpocket::sheet::{MOST_TEXT, READ_REPORT_WORDS, WRITE_REPORT_WORDS};
 use driftpocket::{
     INSTRUCTION_WORDS, Instruction, Kind, MOST_INSTRUCTIONS, MOST_PAGES, PAGE_BYTES, REPORT_WORDS,
-    Refusal, STATE_WORDS, Sheet, State, Vector, run_raw, sheet_read_raw, sheet_write_raw,
+    Refusal, STATE_WORDS, Sheet, Size, State, Vector, run_raw, sheet_read_raw, sheet_write_raw,
 };
 use std::collections::BTreeMap;
 
@@ -62,6 +62,10 @@ fn kinds_codes_and_bits() {
         ("WRSSQ", code(Instruction::wrssq(1, 0, 0))),
         ("CALL_RELATIVE", code(Instruction::call_relative(1, 0))),
         ("CALL_ABSOLUTE", code(Instruction::call_absolute(1, 0))),
+        ("RET", code(Instruction::ret(1))),
+        ("RET_COUNT", code(Instruction::ret_count(1, 0))),
+        ("WRUSSD", code(Instruction::wrussd(1, 0, 0))),
+        ("WRUSSQ", code(Instruction::wrussq(1, 0, 0))),
         ("SH_STK_EN", 1),
         ("WR_SHSTK_EN", 2),
         ("MODE_REAL", 0),
@@ -103,8 +107,56 @@ fn refusals_and_vectors() {
         ("GP", Vector::Protection.number()),
         ("PF", Vector::Page.number()),
         ("CP", Vector::ControlProtection.number()),
+        ("CP_NEAR_RET", 1),
         ("CP_RSTORSSP", 4),
     ]);
+}
+
+/// The answer to one instruction of user code, and the report.
+fn answer(instruction: Instruction, sp: u64, ssp: u64) -> (u64, [u64; REPORT_WORDS]) {
+    let mut list = common::pages(&[(0x1000, Kind::UserShadow), (0x5000, Kind::Ordinary)]);
+    list.write(0x1ff0, Size::Eight, 0x40_0005).unwrap();
+    let state = State {
+        sp,
+        ..common::user(ssp)
+    };
+    let mut report = [9; REPORT_WORDS];
+    let answer = run_raw(
+        &mut state.to_words(),
+        list.entries(),
+        &mut list.bytes().to_vec(),
+        &instruction.to_words(),
+        &mut report,
+    );
+    (answer, report)
+}
+
+#[test]
+fn error_codes() {
+    let numbers = numbers();
+    let wanted = |code| {
+        let vector = numbers["CP"];
+        (numbers["FAULT"] + vector, [0, 0, vector, numbers[code], 0])
+    };
+    let ret = answer(Instruction::ret(1), 0x5008, 0x1ff0);
+    assert_eq!(ret, wanted("CP_NEAR_RET"));
+    let switch = answer(Instruction::rstorssp(5, 0x1ff0), 0x5008, 0x1ff0);
+    assert_eq!(switch, wanted("CP_RSTORSSP"));
+}
+
+#[test]
+fn codes_are_named_without_a_gap() {
+    let named = HEADER.split("---- The instructions: `words` ----").nth(1);
+    let named = named.unwrap().split("---- What is refused ----").next();
+    let lines = named.unwrap().lines();
+    let codes = lines
+        .filter(|line| line.starts_with("#define "))
+        .filter_map(|line| line.split_whitespace().nth(2)?.parse().ok());
+    assert_eq!(codes.collect::<Vec<u64>>(), (1..=12).collect::<Vec<_>>());
+    let refused = |code| answer(Instruction::from_words([code, 1, 0, 0]), 0x5008, 0x1ff0).0;
+    let form = numbers()["REFUSED_FORM"];
+    assert!((1..=12).all(|code| refused(code) != form));
+    assert_eq!([refused(0), refused(13)], [form; 2]);
 }
 
 #[test]

@@ -14,21 +14,22 @@ pub fn reason(instruction: &Instruction, mode: u64) -> Option<Reason> {
     let narrow = "below 2^32, since the mode is 1";
     let wide = |operand: u64| operand >> 32 != 0;
     let tests = [
-        (0, !(1..=8).contains(&code), "1 to 8"),
+        (0, !(1..=12).contains(&code), "1 to 12"),
         (
             0,
-            mode == 0 && matches!(code, 7 | 8),
-            "no call, since the mode is 0",
+            mode == 0 && matches!(code, 7..=10),
+            "no call and no return, since the mode is 0",
         ),
         (
             0,
-            mode == 1 && matches!(code, 2 | 6),
-            "not 2 or 6, since the mode is 1",
+            mode == 1 && matches!(code, 2 | 6 | 12),
+            "not 2, 6 or 12, since the mode is 1",
         ),
         (1, !(1..=15).contains(&length), "1 to 15"),
-        (2, matches!(code, 1 | 2 | 4) && a != 0, unused),
-        (3, matches!(code, 3 | 4 | 7 | 8) && b != 0, unused),
+        (2, matches!(code, 1 | 2 | 4 | 9) && a != 0, unused),
+        (3, matches!(code, 3 | 4 | 7..=10) && b != 0, unused),
         (2, code == 7 && wide(a), "a displacement below 2^32"),
+        (2, code == 10 && a >> 16 != 0, "a byte count below 2^16"),
         (2, mode == 1 && wide(a), narrow),
         (3, mode == 1 && wide(b), narrow),
     ];
@@ -57,14 +58,14 @@ mod tests {
 
     #[test]
     fn there_is_a_reason_exactly_where_the_library_refuses() {
-        let operands = [0, 1, u64::from(u32::MAX), 1 << 32, u64::MAX];
+        let operands = [0, 1, 0xffff, 0x1_0000, 0xffff_ffff, 1 << 32, u64::MAX];
         let lengths = [0, 1, 15, 16, u64::MAX];
         let mut refused = 0;
-        for case in 0..3 * 11 * 5 * 5 * 5_usize {
+        for case in 0..3 * 15 * 5 * 7 * 7_usize {
             let (mode, rest) = ((case % 3) as u64, case / 3);
-            let (code, rest) = ((rest % 11) as u64, rest / 11);
+            let (code, rest) = ((rest % 15) as u64, rest / 15);
             let (length, rest) = (lengths[rest % 5], rest / 5);
-            let (a, b) = (operands[rest % 5], operands[rest / 5]);
+            let (a, b) = (operands[rest % 7], operands[rest / 7]);
             let instruction = Instruction::from_words([code, length, a, b]);
             let is_refused = is_refused(&instruction, mode);
             let reason = reason(&instruction, mode);
@@ -80,7 +81,7 @@ mod tests {
             let reason = reason(&Instruction::from_words(words), mode).unwrap();
             format!("{}; {}", reason.found, reason.expected)
         };
-        assert_eq!(said([9, 1, 0, 0], 2), "field 2 (code) 0x9; 1 to 8");
+        assert_eq!(said([13, 1, 0, 0], 2), "field 2 (code) 0xd; 1 to 12");
         assert_eq!(said([4, 16, 0, 0], 2), "field 3 (length) 0x10; 1 to 15");
         assert_eq!(
             said([3, 5, 8, 7], 2),
@@ -89,6 +90,30 @@ mod tests {
         assert_eq!(
             said([5, 5, 1 << 32, 0], 1),
             "field 4 (A) 0x100000000; below 2^32, since the mode is 1"
+        );
+    }
+
+    #[test]
+    fn returns_and_user_writes_in_words() {
+        let said = |words, mode| {
+            let reason = reason(&Instruction::from_words(words), mode).unwrap();
+            format!("{}; {}", reason.found, reason.expected)
+        };
+        assert_eq!(
+            said([10, 3, 1 << 16, 0], 2),
+            "field 4 (A) 0x10000; a byte count below 2^16"
+        );
+        assert_eq!(
+            said([9, 1, 8, 0], 2),
+            "field 4 (A) 0x8; 0, since this code does not use it"
+        );
+        assert_eq!(
+            said([9, 1, 0, 0], 0),
+            "field 2 (code) 0x9; no call and no return, since the mode is 0"
+        );
+        assert_eq!(
+            said([12, 7, 0x2ff8, 0], 1),
+            "field 2 (code) 0xc; not 2, 6 or 12, since the mode is 1"
         );
     }
 }

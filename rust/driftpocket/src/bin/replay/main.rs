@@ -4,6 +4,7 @@
 //! * `input`: runs to be replayed, and texts with the places they come from.
 //! * `worked`: the worked cases of the rules, the runs that are built in.
 //! * `steps`: replaying a run by single steps, held to the whole run.
+//! * `account`: what a RET or a WRUSS did, in words; `why` has why it faulted.
 //! * `show`: the text for a person.
 //! * `refused`: what a person is told of a text that is not read. The `reason`
 //!   comes from `no_sheet` (where it is no sheet) or `sent_back` (where its run
@@ -13,6 +14,7 @@
 
 #![forbid(unsafe_code)]
 
+mod account;
 mod form;
 mod input;
 mod lines;
@@ -24,6 +26,7 @@ mod restore;
 mod sent_back;
 mod show;
 mod steps;
+mod why;
 mod worked;
 
 use driftpocket::Sheet;

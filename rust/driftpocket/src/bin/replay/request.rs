@@ -20,7 +20,8 @@ usage: replay FILE             replay the run sheet in this file
 
 For a sheet it shows the state, the pages and what they hold, and then each
 instruction with its operands, SSP and IP before and after, and every load and
-store with address, size and value. Four lines close it: how many instructions
+store with address, size and value. Of RET it says what was compared, and of RET
+and WRUSS why they faulted. Four lines close it: how many instructions
 completed, the answer in numbers, the answer in words, and the state after the
 last completed instruction as a line of a sheet. Numbers with 0x are
 hexadecimal, those of a sheet too, all others decimal.

@@ -119,11 +119,11 @@ fn numbers(pages: &PageList, page: u64) -> Vec<String> {
 
 /// One instruction.
 fn step(step: &Step) -> Vec<String> {
-    let length = step.instruction.length;
-    let mut lines = vec![format!(
-        "{}. {} ({length} bytes)",
-        step.number, step.instruction
-    )];
+    let length = match step.instruction.length {
+        1 => "1 byte".to_string(),
+        length => format!("{length} bytes"),
+    };
+    let mut lines = vec![format!("{}. {} ({length})", step.number, step.instruction)];
     if step.answer.is_completed() {
         lines.extend(moves(step));
         lines.extend(step.accesses.iter().map(|access| format!("   {access}")));
@@ -132,6 +132,7 @@ fn step(step: &Step) -> Vec<String> {
         lines.push(format!("   SSP {ssp:#x} and IP {ip:#x} stay"));
         lines.push(format!("   {}", step.answer));
     }
+    lines.extend(step.account.iter().map(|line| format!("   {line}")));
     lines
 }
 
@@ -322,7 +323,8 @@ P4. RSTORSSP switches to the stack whose token fits.
              (page fault: vector 14, error code 0, address 0x3000)\n"
         ));
         let mut run = worked_run(0);
-        run.instructions.push(Instruction::from_words([9, 1, 0, 0]));
+        run.instructions
+            .push(Instruction::from_words([13, 1, 0, 0]));
         assert!(text(&run).contains(
             "completed 1 of 2; instruction 2 is sent back, \
              refusal 6: the instruction breaks its form\n"
@@ -384,6 +386,32 @@ P4. RSTORSSP switches to the stack whose token fits.
     fn a_pointer_that_stays_is_said_to() {
         let write = text(&worked_run(10));
         assert!(write.contains("     SSP 0x1ff0 stays\n     IP 0x400000 -> 0x400006\n"));
+    }
+
+    #[test]
+    fn an_account_follows_the_loads_and_stores() {
+        let mut run = worked_run(12);
+        run.instructions.push(Instruction::ret(1));
+        assert!(text(&run).contains(
+            "  2. RET (1 byte)
+     SSP 0x1fe8 -> 0x1ff0
+     IP 0x400015 -> 0x400005
+     SP 0x5008 -> 0x5010
+     load 0x400005, 8 bytes, from ordinary 0x5008
+     load 0x400005, 8 bytes, from shadow 0x1fe8
+     compared: both return addresses are 0x400005
+     popped: SP moves up by 8 bytes, SSP by 8
+"
+        ));
+        run.instructions.push(Instruction::ret(1));
+        run.pages.write(0x5010, Size::Four, 0x1234).unwrap();
+        assert!(text(&run).contains(
+            "  3. RET (1 byte)
+     SSP 0x1ff0 and IP 0x400005 stay
+     #CP(NEAR-RET), error code 1
+     why: the return addresses differ, 0x1234 at ordinary 0x5010 and 0x0 at shadow 0x1ff0
+"
+        ));
     }
 
     #[test]

@@ -1,5 +1,6 @@
 //! Replaying a run by single steps, held to the run as a whole.
 
+use crate::account;
 use crate::input::Run;
 use driftpocket::trace::{self, Access};
 use driftpocket::{Answer, Instruction, Outcome, PageList, Refusal, State};
@@ -23,6 +24,8 @@ pub struct Step {
     pub accesses: Vec<Access>,
     /// How it ended.
     pub answer: Answer,
+    /// What is to be said of it besides.
+    pub account: Vec<String>,
 }
 
 /// A run that was replayed.
@@ -164,14 +167,17 @@ impl Walk {
         } else if !is_accounted(&accesses, &pages, &self.pages) {
             self.doubts.push(Doubt::Accesses(number));
         }
-        self.steps.push(Step {
+        let mut step = Step {
             number,
             instruction: *instruction,
             before,
             after: self.state,
             accesses: accesses.unwrap_or_default(),
             answer: outcome.answer,
-        });
+            account: Vec::new(),
+        };
+        step.account = account::of(&step, &pages);
+        self.steps.push(step);
         outcome.answer
     }
 }

@@ -1,0 +1,150 @@
+//! What a RET or a WRUSS did, or why it faulted, in words for a person.
+//!
+//! This judges nothing. Whether an instruction completed is the library's word.
+
+use crate::steps::Step;
+use crate::why;
+use driftpocket::{Answer, PageList};
+
+/// The account of a step, from the pages before it. There is none of other
+/// operations, and none of what was sent back.
+pub fn of(step: &Step, pages: &PageList) -> Vec<String> {
+    match (step.instruction.mnemonic(), step.answer) {
+        ("RET", Answer::Completed) => vec![compared(step), moved(step)],
+        ("WRUSSD" | "WRUSSQ", Answer::Completed) => {
+            let cpl = step.before.cpl;
+            vec![format!("stored as user code would, from CPL {cpl}")]
+        }
+        (_, Answer::Faulted(fault)) => {
+            let reason = why::reason(&step.instruction, &step.before, pages);
+            // A reason for another fault would explain nothing.
+            let fitting = reason.filter(|reason| reason.vector == fault.vector);
+            let line = fitting.map(|reason| format!("why: {}", reason.words));
+            line.into_iter().collect()
+        }
+        _ => Vec::new(),
+    }
+}
+
+/// What a RET held its return address to.
+fn compared(step: &Step) -> String {
+    match step.accesses.as_slice() {
+        [ordinary, _] => format!("compared: both return addresses are {:#x}", ordinary.value),
+        _ => "not compared: shadow stacks are not enabled".to_string(),
+    }
+}
+
+/// How far a RET moved the two pointers.
+fn moved(step: &Step) -> String {
+    let width = step.before.width();
+    let up = |old: u64, new: u64| width.wrap(new.wrapping_sub(old));
+    let stack = up(step.before.sp, step.after.sp);
+    let shadow = match up(step.before.ssp, step.after.ssp) {
+        0 => "SSP stays".to_string(),
+        bytes => format!("SSP by {bytes}"),
+    };
+    let released = match step.instruction.a {
+        0 => String::new(),
+        count => format!(" ({count} of them by the count)"),
+    };
+    format!("popped: SP moves up by {stack} bytes{released}, {shadow}")
+}
+
+#[cfg(test)]
+mod tests {
+    use super::*;
+    use crate::input::Run;
+    use crate::steps;
+    use driftpocket::{Instruction, Kind, Size, State};
+
+    /// A run of one instruction, a return address being on both stacks.
+    fn run(instruction: Instruction) -> Run {
+        let mut pages = PageList::new();
+        pages.push(0x1000, Kind::UserShadow).unwrap();
+        pages.push(0x5000, Kind::Ordinary).unwrap();
+        pages.write(0x1fe8, Size::Eight, 0x40_0005).unwrap();
+        pages.write(0x5008, Size::Eight, 0x40_0005).unwrap();
+        Run {
+            title: String::new(),
+            state: State {
+                mode: 2,
+                cpl: 3,
+                cet: 1,
+                ucet: 1,
+                sp: 0x5008,
+                ssp: 0x1fe8,
+                limit: 0xffff_ffff,
+                ..State::default()
+            },
+            pages,
+            instructions: vec![instruction],
+            lines_before: None,
+        }
+    }
+
+    /// The account of its only step.
+    fn account(run: &Run) -> Vec<String> {
+        let replay = steps::replay(run);
+        assert!(replay.is_sound(), "{:?}", replay.doubts);
+        replay.steps[0].account.clone()
+    }
+
+    #[test]
+    fn returns() {
+        let mut one = run(Instruction::ret(1));
+        let same = "compared: both return addresses are 0x400005";
+        assert_eq!(
+            account(&one),
+            [same, "popped: SP moves up by 8 bytes, SSP by 8"]
+        );
+        one.state.mode = 1;
+        assert_eq!(
+            account(&one),
+            [same, "popped: SP moves up by 4 bytes, SSP by 4"]
+        );
+        one.state.ucet = 2;
+        assert_eq!(
+            account(&one),
+            [
+                "not compared: shadow stacks are not enabled",
+                "popped: SP moves up by 4 bytes, SSP stays"
+            ]
+        );
+        let counted = account(&run(Instruction::ret_count(3, 16)));
+        assert_eq!(
+            counted[1],
+            "popped: SP moves up by 24 bytes (16 of them by the count), SSP by 8"
+        );
+    }
+
+    #[test]
+    fn a_return_that_does_not_match() {
+        let mut one = run(Instruction::ret(1));
+        one.pages.write(0x5008, Size::Eight, 0x41_4141).unwrap();
+        assert_eq!(
+            account(&one),
+            [
+                "why: the return addresses differ, 0x414141 at ordinary 0x5008 and 0x400005 at shadow 0x1fe8"
+            ]
+        );
+    }
+
+    #[test]
+    fn writes_to_the_stacks_of_user_code() {
+        let mut one = run(Instruction::wrussq(7, 0x1fe8, 7));
+        assert_eq!(account(&one), ["why: CPL is 3, and must be 0"]);
+        one.state.cpl = 0;
+        assert_eq!(account(&one), ["stored as user code would, from CPL 0"]);
+    }
+
+    #[test]
+    fn others_have_no_account() {
+        for instruction in [
+            Instruction::call_relative(5, 0x10),
+            Instruction::wrssq(7, 0x1fe8, 7),
+            Instruction::from_words([9, 0, 0, 0]),
+        ] {
+            assert!(account(&run(instruction)).is_empty(), "{instruction}");
+        }
+    }
+}
