@@ -71,20 +71,6 @@ fail-requires-3 c κs = search needs
 enum-known-ssp : tie.Need-enum-known-ssp
 enum-known-ssp c = search needs
 
-in-code-requires : tie.Need-in-code-requires
-in-code-requires c κs = search needs
-
-fault-requires-2 : tie.Need-fault-requires-2
-fault-requires-2 c κs = search needs
-
-fail-requires-4 : tie.Need-fail-requires-4
-fail-requires-4 c κs = search needs
-
-returns-2 : tie.Need-returns-2
-returns-2 c =
-    rw (c .fail4 .ensures, c .before .fault3 .ensures)
-    (sym (outside _ _ _ _ (is-inside (c .before .before .before .before .before .before .before .before .before .before .before .before .before .before)) _ (found (c .before .before .before .before .before .before .before .before .before .before .before) ∙ c .before .before .before .before .before .before .before .before .before .target .given .1) _ (sym (c .before .before .before .before .before .before .before .new-ssp .ensures) ∙ ap (λ (p : Popped). resultOf p (c .before .before .before .before .before .before .before .before .before .before .before .before .before .before .before .before .before .before .args .bytes .now)) (c .before .before .before .before .before .ssp .given .1)) (sym (c .before .before .before .in-code .ensures) ∙ not-true _ (c .before .before .if2 .taken))))
-
 bytes-requires : tie.Need-bytes-requires
 bytes-requires c κs = search needs
 
@@ -99,6 +85,20 @@ with-sp-requires c κs = search needs
 
 with-ssp-requires : tie.Need-with-ssp-requires
 with-ssp-requires c κs = search needs
+
+in-code-requires : tie.Need-in-code-requires
+in-code-requires c κs = search needs
+
+fault-requires-2 : tie.Need-fault-requires-2
+fault-requires-2 c κs = search needs
+
+fail-requires-4 : tie.Need-fail-requires-4
+fail-requires-4 c κs = search needs
+
+returns-2 : tie.Need-returns-2
+returns-2 c =
+    rw (c .fail4 .ensures, c .before .fault3 .ensures)
+    (sym (outside _ _ _ _ (is-inside (c .before .before .before .before .before .before .before .before .before .before .before .before .before .before .before .before .before .before .before)) _ (found (c .before .before .before .before .before .before .before .before .before .before .before .before .before .before .before .before) ∙ c .before .before .before .before .before .before .before .before .before .before .before .before .before .before .target .given .1) _ (sym (c .before .before .before .before .before .before .before .before .before .before .before .before .new-ssp .ensures) ∙ ap (λ (p : Popped). resultOf p (c .before .before .before .before .before .before .before .before .before .before .before .before .before .before .before .before .before .before .before .before .before .before .before .args .bytes .now)) (c .before .before .before .before .before .before .before .before .before .before .ssp .given .1)) (sym (c .before .before .before .in-code .ensures) ∙ not-true _ (c .before .before .if2 .taken))))
 
 complete-requires : tie.Need-complete-requires
 complete-requires c κs = search needs
@@ -115,8 +115,8 @@ returns-4 c =
 
 returns-5 : tie.Need-returns-5
 returns-5 c =
-    rw (c .complete .ensures, c .before .with-ssp .ensures, c .before .before .with-sp .ensures, c .before .before .before .plus2 .ensures, c .before .before .before .before .plus .ensures, c .before .before .before .before .before .bytes .ensures, c .before .before .before .before .before .before .before .before .before .before .before .before .before .before .before .before .before .pushed .ensures)
-    (sym (returned _ _ _ _ (is-inside (c .before .before .before .before .before .before .before .before .before .before .before .before .before .before .before .before .before .before)) _ (found (c .before .before .before .before .before .before .before .before .before .before .before .before .before .before .before) ∙ c .before .before .before .before .before .before .before .before .before .before .before .before .before .target .given .1) _ (sym (c .before .before .before .before .before .before .before .before .before .before .before .new-ssp .ensures) ∙ ap (λ (p : Popped). resultOf p (c .before .before .before .before .before .before .before .before .before .before .before .before .before .before .before .before .before .before .before .before .before .before .args .bytes .now)) (c .before .before .before .before .before .before .before .before .before .ssp .given .1)) (sym (c .before .before .before .before .before .before .before .in-code .ensures) ∙ not-false _ (c .before .before .before .before .before .before .if2 .left))))
+    rw (c .complete .ensures, c .before .before .before .with-ssp .ensures, c .before .before .before .before .with-sp .ensures, c .before .before .before .before .before .plus2 .ensures, c .before .before .before .before .before .before .plus .ensures, c .before .before .before .before .before .before .before .bytes .ensures, c .before .before .before .before .before .before .before .before .before .before .before .before .before .before .before .before .before .pushed .ensures)
+    (sym (returned _ _ _ _ (is-inside (c .before .before .before .before .before .before .before .before .before .before .before .before .before .before .before .before .before .before)) _ (found (c .before .before .before .before .before .before .before .before .before .before .before .before .before .before .before) ∙ c .before .before .before .before .before .before .before .before .before .before .before .before .before .target .given .1) _ (sym (c .before .before .before .before .before .before .before .before .before .before .before .new-ssp .ensures) ∙ ap (λ (p : Popped). resultOf p (c .before .before .before .before .before .before .before .before .before .before .before .before .before .before .before .before .before .before .before .before .before .before .args .bytes .now)) (c .before .before .before .before .before .before .before .before .before .ssp .given .1)) (sym (c .before .before .in-code .ensures) ∙ not-false _ (c .before .if2 .left))))
 
 pub execute-spec : {M : Type 1} → statement M
 execute-spec =
@@ -137,15 +137,15 @@ execute-spec =
     enum-known-fault
     fail-requires-3
     enum-known-ssp
-    in-code-requires
-    fault-requires-2
-    fail-requires-4
-    returns-2
     bytes-requires
     plus-requires
     plus-requires-2
     with-sp-requires
     with-ssp-requires
+    in-code-requires
+    fault-requires-2
+    fail-requires-4
+    returns-2
     complete-requires
     returns-3
     returns-4
