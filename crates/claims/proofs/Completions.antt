@@ -14,7 +14,7 @@ use Rattle.processor.specs.declared.answer.Answer.the-variants.{Completed}
 use Rattle.processor.specs.declared.state.State.{State}
 use Rattle.switches.specs.Saveprevssp.{carry}
 use Rattle.calls.specs.Call.{pushed}
-use Rattle.replay.specs.Instruction.{isIncssp, isCall, isRet, isQuad, sizeOf, wordsFit, lengthFits, narrow, modeFits, wellFormed}
+use Rattle.replay.specs.Instruction.{isCall, isQuad, sizeOf, wordsFit, lengthFits, narrow, modeFits, wellFormed}
 use Rattle.replay.specs.Permission.{writeBit, withoutWrite, withCet, hidden, shown}
 use Rattle.replay.specs.Exec.{operationOf, exec, perform}
 use Rattle.replay.specs.Codes.{target, operationFrom9, operation, codes}
@@ -47,7 +47,7 @@ frame-alike s = ap (λ (t : Bool). cond t (byteCount (pushed s)) 0) (enabled-ali
 
 popped-alike : (i : Instruction) (s : State) → popped i (hidden s) ≡ popped i s
 unfolding popped hidden
-popped-alike i s = ap (λ (n : ℕ). cond (isIncssp i) (byteCount (sizeOf i) * (i .b % 256)) (cond (eqb (i .code) 4) (cond (carry s) 12 8) (cond (isRet i) n 0))) (frame-alike s)
+popped-alike i s = rw (← frame-alike s)
 
 pushed-alike : (i : Instruction) (s : State) → pushedBy i (hidden s) ≡ pushedBy i s
 unfolding pushedBy
