@@ -14,7 +14,7 @@ use Rattle.processor.specs.declared.answer.Answer.the-variants.{Completed}
 use Rattle.processor.specs.declared.state.State.{State}
 use Rattle.switches.specs.Saveprevssp.{carry}
 use Rattle.calls.specs.Call.{pushed}
-use Rattle.replay.specs.Instruction.{isCall, isQuad, sizeOf, wordsFit, lengthFits, narrow, modeFits, wellFormed}
+use Rattle.replay.specs.Instruction.{isQuad, sizeOf, wordsFit, lengthFits, narrow, modeFits, wellFormed}
 use Rattle.replay.specs.Permission.{writeBit, withoutWrite, withCet, hidden, shown}
 use Rattle.replay.specs.Exec.{operationOf, exec, perform}
 use Rattle.replay.specs.Codes.{target, operationFrom9, operation, codes}
@@ -43,7 +43,7 @@ enabled-alike s = ap (λ (n : ℕ). eqb (s .cet) 1 && eqb n 1) (go (userMode s))
 
 frame-alike : (s : State) → frame (hidden s) ≡ frame s
 unfolding frame hidden
-frame-alike s = ap (λ (t : Bool). cond t (byteCount (pushed s)) 0) (enabled-alike s)
+frame-alike s = rw (← enabled-alike s)
 
 popped-alike : (i : Instruction) (s : State) → popped i (hidden s) ≡ popped i s
 unfolding popped hidden
@@ -51,7 +51,7 @@ popped-alike i s = rw (← frame-alike s)
 
 pushed-alike : (i : Instruction) (s : State) → pushedBy i (hidden s) ≡ pushedBy i s
 unfolding pushedBy
-pushed-alike i s = ap (λ (n : ℕ). cond (isCall i) n 0) (frame-alike s)
+pushed-alike i s = rw (← frame-alike s)
 
 range-alike : (s : State) (ucet scet : ℕ) → InRange s → InRange (withCet s ucet scet)
 range-alike s ucet scet h =
