@@ -2,7 +2,7 @@
 //!
 //! An operation works on a copy of the state and inside a transaction. Only
 //! when it has come to its end do both take effect. Two of them have files of
-//! their own: [`near_return`] and [`user_write`].
+//! their own: `near_return` and `user_write`.
 
 mod near_return;
 mod user_write;
