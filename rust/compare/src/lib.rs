@@ -16,6 +16,7 @@
 //! * [`refusals`]: every refusal, and their order.
 //! * [`world`]: pages, states and tokens for a random run.
 //! * [`operands`]: instructions that suit a state, or just don't.
+//! * [`frames`]: calls and returns that match, or just don't.
 //! * [`author`]: random runs and random pairs of runs.
 //! * [`table`]: which answers came from which code, and which can't.
 //! * [`reasons`]: which reasons for faults came up.
@@ -32,6 +33,7 @@ pub mod case;
 pub mod damage;
 pub mod difference;
 pub mod edges;
+pub mod frames;
 pub mod operands;
 pub mod properties;
 pub mod reasons;
