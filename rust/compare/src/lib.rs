@@ -13,6 +13,8 @@
 //! * [`worked`]: the thirteen worked cases of the rules.
 //! * [`edges`]: limits of lists, lengths, pointers and targets.
 //! * [`tokens`]: tokens that are just right and just wrong.
+//! * [`returns`]: near RET, and what it is given by calls.
+//! * [`user_writes`]: WRUSS, who may and which pages it reaches.
 //! * [`refusals`]: every refusal, and their order.
 //! * [`world`]: pages, states and tokens for a random run.
 //! * [`operands`]: instructions that suit a state, or just don't.
@@ -38,10 +40,12 @@ pub mod operands;
 pub mod properties;
 pub mod reasons;
 pub mod refusals;
+pub mod returns;
 pub mod rounds;
 pub mod rows;
 pub mod sheets;
 pub mod table;
 pub mod tokens;
+pub mod user_writes;
 pub mod worked;
 pub mod world;
