@@ -42,6 +42,12 @@ impl Answer {
         ..Answer::fault(CP)
     };
 
+    /// The control protection fault of RET.
+    pub const BAD_RETURN: Answer = Answer {
+        error_code: 1,
+        ..Answer::fault(CP)
+    };
+
     /// A fault without error code and address.
     pub const fn fault(vector: u64) -> Answer {
         Answer {

@@ -6,6 +6,7 @@
 
 use crate::case::{Case, FOUR_GIB, REPORT_WORDS, field};
 use crate::damage::{OF_PAGES, OF_STATE, OF_WORDS, spoil};
+use crate::frames::propose_frames;
 use crate::operands::{propose, propose_any, propose_token};
 use crate::world::World;
 use driftpocket_reference::address::{Width, is_canonical};
@@ -15,12 +16,17 @@ use driftpocket_reference::operations::{Outcome, step};
 use driftpocket_reference::pages::{MOST_PAGES, PAGE_BYTES};
 use driftpocket_reference::processor::State;
 use driftpocket_reference::runs;
+use std::collections::VecDeque;
 
 /// How often an instruction is dropped before one is taken as it is.
-const ATTEMPTS: usize = 12;
+const ATTEMPTS: usize = 16;
 
 /// The instruction that is taken then: a call of itself.
 const CALL_SELF: [u64; 4] = [7, 5, 0xffff_fffb, 0];
+
+/// Those that may be taken instead where there is no room for that call.
+const RETURN: [u64; 4] = [9, 1, 0, 0];
+const RETURN_DROPPING: [u64; 4] = [10, 3, 8, 0];
 
 /// Runs that should be longer than this get as many instructions as there may
 /// be, whether they are met or not.
@@ -45,6 +51,8 @@ struct Scene {
     state: State,
     memory: Memory,
     last: u64,
+    /// Calls and returns that belong together and are still to come.
+    frames: VecDeque<[u64; 4]>,
 }
 
 impl Author {
@@ -83,6 +91,7 @@ impl Author {
             state: State::read(fields).expect("fields in their ranges"),
             memory: Memory::new(&case.pages, case.bytes.clone()).expect("a good list"),
             last: 0,
+            frames: VecDeque::new(),
         };
         case.words = self.play(&mut scene);
         case
@@ -100,7 +109,7 @@ impl Author {
     /// The words of a run, chosen while it runs.
     fn play(&mut self, scene: &mut Scene) -> Vec<u64> {
         let steps = self.steps();
-        let patience = self.dice.one_of(&[6, 30, 200, 1000]);
+        let patience = self.dice.one_of(&[8, 30, 200, 1000]);
         let mut words = Vec::new();
         let mut goes_on = true;
         while goes_on && words.len() < steps * runs::WORDS {
@@ -125,7 +134,8 @@ impl Author {
         let world = &scene.world;
         match self.dice.below(8) {
             0..2 => Vec::new(),
-            2..5 => propose_token(&mut self.dice, world, &fields),
+            2 | 3 if world.enabled => propose_token(&mut self.dice, world, &fields),
+            2..5 => propose_frames(&mut self.dice, world, &fields),
             _ => (0..self.dice.between(1, 3))
                 .map(|_| propose_any(&mut self.dice, world, &fields))
                 .collect(),
@@ -151,6 +161,18 @@ impl Author {
         if scene.world.mode == 0 {
             return (propose_any(&mut self.dice, &scene.world, &fields), false);
         }
+        if scene.frames.is_empty() && self.dice.once_in(10) {
+            scene.frames = propose_frames(&mut self.dice, &scene.world, &fields).into();
+        }
+        if let Some(words) = scene.frames.pop_front() {
+            if scene.attempt(words) {
+                return (words, true);
+            }
+            scene.frames.clear();
+            if self.dice.once_in(6) {
+                return (words, false);
+            }
+        }
         for _ in 0..ATTEMPTS {
             let words = propose(&mut self.dice, &scene.world, &fields, scene.last);
             let completes = scene.attempt(words);
@@ -158,7 +180,11 @@ impl Author {
                 return (words, completes);
             }
         }
-        (CALL_SELF, scene.attempt(CALL_SELF))
+        if scene.attempt(CALL_SELF) {
+            return (CALL_SELF, true);
+        }
+        let words = self.dice.one_of(&[CALL_SELF, RETURN, RETURN_DROPPING]);
+        (words, scene.attempt(words))
     }
 
     /// Two cases that differ in their pages alone. The second has every page of

@@ -271,7 +271,8 @@ fn reports() -> Vec<Row> {
     rows
 }
 
-/// Mode 0: #UD for codes 1 to 6 whatever their operands, refusal 6 for calls.
+/// Mode 0: #UD for codes 1 to 6, 11 and 12 whatever their operands, refusal 6
+/// for calls and returns.
 fn real_mode() -> Vec<Row> {
     let case = |code, a, b| plain(&[[code, 5, a, b]]).with(field::MODE, 0);
     let wide = FOUR_GIB + 8;
@@ -282,13 +283,15 @@ fn real_mode() -> Vec<Row> {
         (4, 0, 0),
         (5, wide, wide),
         (6, wide, wide),
+        (11, wide, wide),
+        (12, wide, wide),
     ];
     let mut rows = Vec::new();
     for (code, a, b) in faults {
         let name = format!("mode 0, code {code}");
         rows.push(Row::ends(name, case(code, a, b), Answer::fault(UD)));
     }
-    for code in [7, 8] {
+    for code in 7..=10 {
         let name = format!("mode 0, code {code}");
         rows.push(Row::ends(name, case(code, 0, 0), Answer::refusal(6)));
     }

@@ -13,9 +13,12 @@
 //! * [`worked`]: the thirteen worked cases of the rules.
 //! * [`edges`]: limits of lists, lengths, pointers and targets.
 //! * [`tokens`]: tokens that are just right and just wrong.
+//! * [`returns`]: near RET, and what it is given by calls.
+//! * [`user_writes`]: WRUSS, who may and which pages it reaches.
 //! * [`refusals`]: every refusal, and their order.
 //! * [`world`]: pages, states and tokens for a random run.
 //! * [`operands`]: instructions that suit a state, or just don't.
+//! * [`frames`]: calls and returns that match, or just don't.
 //! * [`author`]: random runs and random pairs of runs.
 //! * [`table`]: which answers came from which code, and which can't.
 //! * [`reasons`]: which reasons for faults came up.
@@ -32,14 +35,17 @@ pub mod case;
 pub mod damage;
 pub mod difference;
 pub mod edges;
+pub mod frames;
 pub mod operands;
 pub mod properties;
 pub mod reasons;
 pub mod refusals;
+pub mod returns;
 pub mod rounds;
 pub mod rows;
 pub mod sheets;
 pub mod table;
 pub mod tokens;
+pub mod user_writes;
 pub mod worked;
 pub mod world;

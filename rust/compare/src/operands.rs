@@ -18,7 +18,7 @@ pub fn propose(dice: &mut Dice, world: &World, state: &[u64], last: u64) -> [u64
 
 /// Proposes an instruction of any code, whether it suits or not.
 pub fn propose_any(dice: &mut Dice, world: &World, state: &[u64]) -> [u64; 4] {
-    let code = dice.between(1, 8);
+    let code = dice.between(1, 12);
     let mut words = fill(dice, world, state, code);
     if dice.once_in(3) {
         mangle(dice, &mut words);
@@ -50,7 +50,10 @@ fn fill(dice: &mut Dice, world: &World, state: &[u64], code: u64) -> [u64; 4] {
         4 => (0, 0),
         5 | 6 => write(dice, world, state, 4 * (code - 4)),
         7 => (displacement(dice, world, state), 0),
-        _ => (target(dice, world), 0),
+        8 => (target(dice, world), 0),
+        9 => (0, 0),
+        10 => (byte_count(dice), 0),
+        _ => user_write(dice, world, 4 * (code - 10)),
     };
     if !world.is_wide() && !dice.once_in(60) {
         a %= FOUR_GIB;
@@ -62,17 +65,21 @@ fn fill(dice: &mut Dice, world: &World, state: &[u64], code: u64) -> [u64; 4] {
 /// A code. Those that can't complete are chosen seldom outside mode 0.
 fn choose_code(dice: &mut Dice, world: &World, last: u64) -> u64 {
     if world.mode == 0 || dice.once_in(40) {
-        return dice.between(1, 8);
+        return dice.between(1, 12);
     }
-    if !world.enabled {
-        return dice.between(7, 8);
-    }
-    if last == 3 && dice.once_in(2) {
-        return 4;
-    }
-    let code = dice.one_of(&[1, 2, 2, 3, 3, 3, 4, 5, 6, 6, 7, 7, 8, 8]);
+    let back = dice.between(9, 10);
+    let for_user = match world.cpl {
+        0 => dice.between(11, 12),
+        _ => dice.between(7, 8),
+    };
+    let code = match last {
+        3 if dice.once_in(2) => 4,
+        7 | 8 if dice.once_in(3) => back,
+        _ if !world.enabled => dice.one_of(&[7, 7, 8, 8, back, for_user]),
+        _ => dice.one_of(&[1, 2, 2, 3, 3, 3, 4, 5, 6, 6, 7, 7, 8, 8, back, for_user]),
+    };
     match code {
-        2 | 6 if world.mode == 1 => code - 1,
+        2 | 6 | 12 if world.mode == 1 => code - 1,
         _ => code,
     }
 }
@@ -81,7 +88,7 @@ fn choose_code(dice: &mut Dice, world: &World, last: u64) -> u64 {
 fn mangle(dice: &mut Dice, words: &mut [u64; 4]) {
     let any = dice.any();
     match dice.below(7) {
-        0 => words[0] = dice.one_of(&[0, 9, any]),
+        0 => words[0] = dice.one_of(&[0, 13, any]),
         1 => words[1] = dice.one_of(&[0, 16, any]),
         2 => words[2] ^= 1 << dice.below(64),
         3 => words[3] ^= 1 << dice.below(64),
@@ -140,6 +147,33 @@ fn write(dice: &mut Dice, world: &World, state: &[u64], size: u64) -> (u64, u64)
         8 => (ssp.wrapping_add(8), 0),
         _ => (world.near_shadow(dice, size), dice.any()),
     }
+}
+
+/// How many bytes a return drops.
+pub fn byte_count(dice: &mut Dice) -> u64 {
+    let any = dice.below(1 << 16);
+    match dice.below(40) {
+        0 => 1 << 16,
+        1 => any << 1,
+        2 => 0xffff,
+        3 => any,
+        4..8 => dice.below(40),
+        _ => 4 * dice.below(6),
+    }
+}
+
+/// An address and a value for WRUSS with so many bytes.
+fn user_write(dice: &mut Dice, world: &World, size: u64) -> (u64, u64) {
+    let at = match dice.below(12) {
+        0 | 1 => {
+            let off = dice.between(1, size - 1);
+            world.near(dice, &world.user, size).wrapping_add(off)
+        }
+        2 => world.near_shadow(dice, size),
+        3 => world.near(dice, &world.ordinary, size),
+        _ => world.near(dice, &world.user, size),
+    };
+    (at, dice.any())
 }
 
 /// A target for an absolute call.

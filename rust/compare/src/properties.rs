@@ -143,9 +143,11 @@ fn popped(words: &[u64], state: &[u64]) -> i128 {
         2 => 8 * i128::from(words[3] % 256),
         4 if gap => 12,
         4 => 8,
-        7 | 8 if !is_enabled(state) => 0,
+        7..=10 if !is_enabled(state) => 0,
         7 | 8 if wide => -8,
         7 | 8 => -4,
+        9 | 10 if wide => 8,
+        9 | 10 => 4,
         _ => 0,
     }
 }

@@ -8,9 +8,12 @@ use driftpocket_reference::runs::Ending;
 use std::collections::BTreeMap;
 
 /// Reasons that come up in both modes that have shadow stacks.
-const IN_BOTH: [Fault; 7] = [
+const IN_BOTH: [Fault; 10] = [
     Fault::NotEnabled,
     Fault::WritesNotPermitted,
+    Fault::CetIsOff,
+    Fault::LevelAboveZero,
+    Fault::ReturnsDiffer,
     Fault::Misaligned,
     Fault::RestoreMark,
     Fault::RestorePlace,
@@ -20,43 +23,50 @@ const IN_BOTH: [Fault; 7] = [
 
 /// Reasons of mode 1 alone: all numbers have 32 bits there, code has a limit,
 /// and the gap that the carry flag promises is read.
-const IN_NARROW: [Fault; 6] = [
+const IN_NARROW: [Fault; 7] = [
     Fault::RestoreHigh,
     Fault::PreviousHigh,
     Fault::TargetAboveLimit,
     Fault::PushPastEnd,
+    Fault::PopPastEnd,
     Fault::GapNotZero,
     Fault::Page(Part::Gap, 0),
 ];
 
 /// Reasons of mode 2 alone: some addresses are not canonical, and the carry
 /// flag can't be set.
-const IN_WIDE: [Fault; 4] = [
+const IN_WIDE: [Fault; 5] = [
     Fault::TargetNotCanonical,
     Fault::PushNotCanonical,
+    Fault::PopNotCanonical,
     Fault::GapInLongMode,
     Fault::ShadowNotCanonical(Part::Token),
 ];
 
 /// The shadow accesses that both modes make, besides the load of a token.
-const SHADOW_ACCESSES: [Part; 6] = [
+const SHADOW_ACCESSES: [Part; 8] = [
     Part::FirstElement,
     Part::LastElement,
     Part::Zeros,
     Part::NewToken,
     Part::Value,
     Part::ShadowPush,
+    Part::ShadowPop,
+    Part::UserValue,
 ];
+
+/// The accesses to the ordinary stack, which both modes make.
+const ORDINARY_ACCESSES: [Part; 2] = [Part::OrdinaryPush, Part::OrdinaryPop];
 
 /// All reasons that can come up in a mode.
 fn expected(mode: u64) -> Vec<Fault> {
     let pages = SHADOW_ACCESSES.map(|part| Fault::Page(part, 0));
-    let push = [Fault::Page(Part::OrdinaryPush, 0)];
+    let ordinary = ORDINARY_ACCESSES.map(|part| Fault::Page(part, 0));
     let canonical = SHADOW_ACCESSES.map(Fault::ShadowNotCanonical);
     match mode {
         0 => vec![Fault::RealMode],
-        1 => [&IN_BOTH[..], &IN_NARROW, &pages, &push].concat(),
-        _ => [&IN_BOTH[..], &IN_WIDE, &pages, &push, &canonical].concat(),
+        1 => [&IN_BOTH[..], &IN_NARROW, &pages, &ordinary].concat(),
+        _ => [&IN_BOTH[..], &IN_WIDE, &pages, &ordinary, &canonical].concat(),
     }
 }
 

@@ -6,7 +6,7 @@ use crate::damage;
 use crate::rows::{Row, plain};
 
 /// A good instruction of every code, with its operands.
-const GOOD: [[u64; 4]; 8] = [
+const GOOD: [[u64; 4]; 12] = [
     [1, 3, 0, 1],
     [2, 3, 0, 1],
     [3, 3, 0x2ff0, 0],
@@ -15,6 +15,10 @@ const GOOD: [[u64; 4]; 8] = [
     [6, 3, 0x2000, 7],
     [7, 3, 0x10, 0],
     [8, 3, 0x1000, 0],
+    [9, 3, 0, 0],
+    [10, 3, 0x10, 0],
+    [11, 3, 0x2000, 7],
+    [12, 3, 0x2000, 7],
 ];
 
 /// All rows.
@@ -119,10 +123,10 @@ fn broken(mode: u64) -> Vec<[u64; 4]> {
             all.push([code, wrong, a, b]);
         }
         for wrong in [1, 8, FOUR_GIB - 1, 1 << 63] {
-            if matches!(code, 1 | 2 | 4) {
+            if matches!(code, 1 | 2 | 4 | 9) {
                 all.push([code, length, wrong, b]);
             }
-            if matches!(code, 3 | 4 | 7 | 8) {
+            if matches!(code, 3 | 4 | 7..=10) {
                 all.push([code, length, a, wrong]);
             }
         }
@@ -130,13 +134,21 @@ fn broken(mode: u64) -> Vec<[u64; 4]> {
             all.push([code, length, a + FOUR_GIB, b]);
             all.push([code, length, a, b + FOUR_GIB]);
         }
-        if mode == 0 && code > 6 || mode == 1 && matches!(code, 2 | 6) {
+        let refused = match mode {
+            0 => matches!(code, 7..=10),
+            1 => matches!(code, 2 | 6 | 12),
+            _ => false,
+        };
+        if refused {
             all.push(good);
         }
     }
     all.push([7, 5, FOUR_GIB, 0]);
     all.push([7, 5, 0xffff_ffff_ffff_fff0, 0]);
-    for code in [0, 9, 10, 256 + 1, FOUR_GIB + 1, u64::MAX] {
+    for count in [0x1_0000, 0x1_0010, 0xffff_ffff, 1 << 63] {
+        all.push([10, 3, count, 0]);
+    }
+    for code in [0, 13, 14, 256 + 1, FOUR_GIB + 1, u64::MAX] {
         all.push([code, 3, 0, 0]);
     }
     all
@@ -185,7 +197,7 @@ fn forms_before_faults() -> Vec<Row> {
 
 /// Instructions that fault, with U_CET and the vector, and one word of them
 /// that breaks their form: its place and value.
-const FAULTING: [([u64; 4], u64, u64, usize, u64); 7] = [
+const FAULTING: [([u64; 4], u64, u64, usize, u64); 10] = [
     ([5, 1, 0x2001, 0], 1, UD, 1, 0),
     ([6, 15, 0x2001, 0], 3, GP, 1, 16),
     ([3, 1, 0x2ff4, 0], 1, GP, 3, 1),
@@ -193,6 +205,9 @@ const FAULTING: [([u64; 4], u64, u64, usize, u64); 7] = [
     ([8, 1, 1 << 63, 0], 1, GP, 3, 1),
     ([7, 1, 0, 0], 1, GP, 2, FOUR_GIB),
     ([6, 1, 0x9000, 0], 3, PF, 1, 0),
+    ([9, 1, 0, 0], 0, GP, 2, 8),
+    ([10, 1, 0xffff, 0], 0, GP, 2, 0x1_0000),
+    ([11, 1, 0x2001, 0], 0, GP, 1, 16),
 ];
 
 /// Instructions that fault, and then break their form besides.

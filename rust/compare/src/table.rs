@@ -3,8 +3,8 @@
 //! A cell is a place in this table: mode, CPL and whether shadow stacks are
 //! enabled, what the answer came from, and the answer. The rules say which
 //! cells stay empty for ever. All others must be hit, for at each CPL there is
-//! the same to be hit: the level chooses a register and a kind of page, and
-//! either can be had at any level.
+//! the same to be hit, WRUSS aside: the level chooses a register and a kind of
+//! page, and either can be had at any level. WRUSS is for CPL 0 alone.
 
 use crate::answer::{CP, GP, PF, SS, UD};
 use crate::case::{Case, Seen, field, is_enabled, own_controls};
@@ -27,7 +27,7 @@ pub struct Column {
 pub enum Source {
     /// No instruction: it came before any step, or there was none to make.
     Start,
-    /// An instruction with this code, from 1 to 8.
+    /// An instruction with this code, from 1 to 12.
     Code(u64),
     /// An instruction with another code.
     OtherCode,
@@ -89,14 +89,16 @@ const LAWS: &[Law] = &[
     law("a code that does not exist breaks its form", |cell| {
         cell.source == Source::OtherCode && !cell.is_form()
     }),
-    law("mode 0 refuses calls", |cell| {
-        cell.mode() == Some(0) && cell.is_call() && !cell.is_form()
+    law("mode 0 refuses calls and returns", |cell| {
+        cell.mode() == Some(0) && (cell.is_call() || cell.is_return()) && !cell.is_form()
     }),
-    law("mode 0 gives #UD for codes 1 to 6", |cell| {
-        cell.mode() == Some(0) && cell.is_shadow() && !cell.is_form_or(UD)
+    law("mode 0 gives #UD for codes 1 to 6, 11 and 12", |cell| {
+        let known = cell.is_shadow() || cell.is_user_write();
+        cell.mode() == Some(0) && known && !cell.is_form_or(UD)
     }),
-    law("mode 1 refuses codes 2 and 6", |cell| {
-        cell.mode() == Some(1) && matches!(cell.source, Source::Code(2 | 6)) && !cell.is_form()
+    law("mode 1 refuses codes 2, 6 and 12", |cell| {
+        let wide = matches!(cell.source, Source::Code(2 | 6 | 12));
+        cell.mode() == Some(1) && wide && !cell.is_form()
     }),
     law("not enabled, codes 1 to 6 give #UD", |cell| {
         !cell.is_enabled() && cell.is_shadow() && !cell.is_form_or(UD)
@@ -107,15 +109,30 @@ const LAWS: &[Law] = &[
             && matches!(cell.source, Source::Code(1..=4))
             && cell.vector() == Some(UD)
     }),
-    law("a call is no invalid opcode", |cell| {
-        cell.is_call() && cell.vector() == Some(UD)
+    law("enabled means that CR4.CET is 1, as WRUSS asks", |cell| {
+        cell.is_enabled()
+            && cell.mode() > Some(0)
+            && cell.is_user_write()
+            && cell.vector() == Some(UD)
     }),
-    law("only RSTORSSP gives #CP", |cell| {
-        cell.source != Source::Code(3) && cell.vector() == Some(CP)
+    law("above CPL 0 WRUSS gives #GP if not #UD", |cell| {
+        let above = cell.column.is_some_and(|column| column.cpl > 0);
+        let further = matches!(cell.class, Class::Completed | Class::Faulted(PF));
+        above && cell.is_user_write() && further
     }),
-    law("only the ordinary push of a call gives #SS", |cell| {
-        !cell.is_call() && cell.vector() == Some(SS)
+    law("a call or return is no invalid opcode", |cell| {
+        (cell.is_call() || cell.is_return()) && cell.vector() == Some(UD)
     }),
+    law("only RSTORSSP and RET give #CP", |cell| {
+        cell.source != Source::Code(3) && !cell.is_return() && cell.vector() == Some(CP)
+    }),
+    law("not enabled, RET compares nothing", |cell| {
+        !cell.is_enabled() && cell.is_return() && cell.vector() == Some(CP)
+    }),
+    law(
+        "only the ordinary stack of calls and returns gives #SS",
+        |cell| !cell.is_call() && !cell.is_return() && cell.vector() == Some(SS),
+    ),
     law(
         "INCSSP gives #GP only for addresses that mode 1 lacks",
         |cell| {
@@ -145,14 +162,14 @@ impl Source {
     /// The source that a code is.
     fn of_code(code: u64) -> Source {
         match code {
-            1..=8 => Source::Code(code),
+            1..=12 => Source::Code(code),
             _ => Source::OtherCode,
         }
     }
 
     /// All sources there are.
     fn all() -> impl Iterator<Item = Source> {
-        let codes = (1..=8).map(Source::Code);
+        let codes = (1..=12).map(Source::Code);
         [Source::Start, Source::OtherCode].into_iter().chain(codes)
     }
 }
@@ -220,7 +237,17 @@ impl Cell {
         matches!(self.source, Source::Code(7 | 8))
     }
 
-    /// An operation on shadow stacks alone.
+    /// Near RET.
+    fn is_return(&self) -> bool {
+        matches!(self.source, Source::Code(9 | 10))
+    }
+
+    /// WRUSS.
+    fn is_user_write(&self) -> bool {
+        matches!(self.source, Source::Code(11 | 12))
+    }
+
+    /// An operation on the level's own shadow stacks alone.
     fn is_shadow(&self) -> bool {
         matches!(self.source, Source::Code(1..=6))
     }
@@ -412,11 +439,11 @@ mod tests {
     use crate::rows::plain;
 
     fn cell(mode: u64, enabled: bool, code: u64, class: Class) -> Cell {
-        let column = Column {
-            mode,
-            enabled,
-            cpl: 3,
-        };
+        cell_at(3, mode, enabled, code, class)
+    }
+
+    fn cell_at(cpl: u64, mode: u64, enabled: bool, code: u64, class: Class) -> Cell {
+        let column = Column { mode, enabled, cpl };
         Cell {
             column: Some(column),
             source: Source::Code(code),
@@ -424,9 +451,15 @@ mod tests {
         }
     }
 
-    /// The answers that a code can give in a mode.
+    /// The answers that a code can give in a mode to user code.
     fn answers(mode: u64, enabled: bool, code: u64) -> Vec<Class> {
-        let can_come = |class: &Class| cell(mode, enabled, code, *class).forbidden().is_none();
+        answers_at(3, mode, enabled, code)
+    }
+
+    /// The answers that a code can give in a mode at a level.
+    fn answers_at(cpl: u64, mode: u64, enabled: bool, code: u64) -> Vec<Class> {
+        let at = |class: &Class| cell_at(cpl, mode, enabled, code, *class);
+        let can_come = |class: &Class| at(class).forbidden().is_none();
         CLASSES.into_iter().filter(can_come).collect()
     }
 
@@ -453,15 +486,54 @@ mod tests {
     }
 
     #[test]
-    fn each_level_has_the_same_open_cells() {
+    fn answers_of_returns_and_user_writes() {
+        use Class::{Completed, Faulted, Refused};
+        let form = Refused(6);
+        let [ud, ss, gp, pf, cp] = [UD, SS, GP, PF, CP].map(Faulted);
+        for (code, enabled) in [(9, false), (9, true), (10, false), (10, true)] {
+            assert_eq!(answers(0, enabled, code), [form]);
+            let mut all = vec![Completed, form, ss, gp, pf, cp];
+            if !enabled {
+                all.pop();
+            }
+            for mode in [1, 2] {
+                assert_eq!(answers(mode, enabled, code), all);
+            }
+        }
+        for cpl in 0..4 {
+            for enabled in [false, true] {
+                assert_eq!(answers_at(cpl, 1, enabled, 12), [form]);
+                for code in [11, 12] {
+                    assert_eq!(answers_at(cpl, 0, enabled, code), [form, ud]);
+                }
+            }
+            for (mode, code) in [(1, 11), (2, 11), (2, 12)] {
+                let (off, on) = match cpl {
+                    0 => (
+                        vec![Completed, form, ud, gp, pf],
+                        vec![Completed, form, gp, pf],
+                    ),
+                    _ => (vec![form, ud, gp], vec![form, gp]),
+                };
+                assert_eq!(answers_at(cpl, mode, false, code), off);
+                assert_eq!(answers_at(cpl, mode, true, code), on);
+            }
+        }
+    }
+
+    #[test]
+    fn each_level_has_the_same_open_cells_but_for_wruss() {
         let open: Vec<Cell> = Cell::open().collect();
         let at = |cpl| {
             let here = |cell: &&Cell| cell.column.is_some_and(|column| column.cpl == cpl);
             open.iter().filter(here).count()
         };
-        assert!((1..4).all(|cpl| at(cpl) == at(0)));
+        assert!((2..4).all(|cpl| at(cpl) == at(1)));
+        // At CPL 0 it completes and gives #PF, enabled or not: code 11 in two
+        // modes, code 12 in one.
+        assert_eq!(at(0), at(1) + 2 * 2 * 3);
         // Refusals 1 to 5 need no column.
-        assert_eq!(open.len(), 4 * at(0) + 5);
+        assert_eq!(open.len(), at(0) + 3 * at(1) + 5);
     }
 
     #[test]
@@ -493,7 +565,7 @@ mod tests {
         table.hit(strange.column, strange.source, strange.class);
         let complaints = table.complaints();
         assert_eq!(complaints.len(), 2);
-        let words = "hit, though mode 1 refuses codes 2 and 6: ";
+        let words = "hit, though mode 1 refuses codes 2, 6 and 12: ";
         assert!(complaints[0].starts_with(words), "{complaints:?}");
     }
 }

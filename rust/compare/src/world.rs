@@ -45,6 +45,9 @@ pub struct World {
     pub shadow: Vec<u64>,
     /// The ordinary pages, just so.
     pub ordinary: Vec<u64>,
+    /// The pages that WRUSS reaches, just so. At CPL 3 they are those that other
+    /// shadow accesses reach.
+    pub user: Vec<u64>,
     /// Where tokens to restore may lie.
     pub tokens: Vec<u64>,
 }
@@ -61,6 +64,7 @@ impl World {
             limit: world_limit(dice),
             shadow: Vec::new(),
             ordinary: Vec::new(),
+            user: Vec::new(),
             tokens: Vec::new(),
         };
         let mut case = Case {
@@ -73,7 +77,11 @@ impl World {
         case.bytes = background(dice, case.pages.len());
         world.plant_tokens(dice, &mut case);
         case.state = world.choose_state(dice);
-        world.plant_at_top(dice, &mut case);
+        if dice.once_in(4) {
+            world.plant_frame(dice, &mut case);
+        } else {
+            world.plant_at_top(dice, &mut case);
+        }
         (world, case)
     }
 
@@ -118,6 +126,7 @@ impl World {
             let next = self.neighbour(dice, ordinary);
             add(&mut list, next, 3);
         }
+        self.choose_user_page(dice, &mut list);
         if dice.once_in(4) {
             let page = dice.one_of(&list) & !0xfff;
             let decoy = dice.one_of(&[
@@ -138,6 +147,20 @@ impl World {
         }
         dice.shuffle(&mut list);
         list
+    }
+
+    /// Chooses a page that WRUSS reaches, and puts it on the list in most of the
+    /// worlds in which that can be seen.
+    fn choose_user_page(&mut self, dice: &mut Dice, list: &mut Vec<u64>) {
+        if self.cpl == 3 {
+            self.user = self.shadow.clone();
+            return;
+        }
+        let page = self.home(dice);
+        self.user.push(page);
+        if self.cpl == 0 && !dice.once_in(6) {
+            add(list, page, 1);
+        }
     }
 
     /// A page address, mostly beside an edge.
@@ -223,13 +246,18 @@ impl World {
     fn choose_sp(&self, dice: &mut Dice) -> u64 {
         let page = dice.one_of(&self.ordinary);
         let deep = dice.between(40, PAGE_BYTES / 8) * 8;
-        let sp = match dice.below(16) {
+        let sp = match dice.below(18) {
             0 => dice.below(10),
             1 => dice.one_of(&[HOLE, ABOVE_HOLE]) + dice.below(10),
             2 => page.wrapping_add(dice.below(12)),
             3 => page.wrapping_add(PAGE_BYTES + dice.below(30)),
             4 => page.wrapping_add(dice.below(PAGE_BYTES)),
             5 => page.wrapping_add(deep - dice.below(8)),
+            6 if self.is_wide() => {
+                let end = dice.one_of(&[0, HOLE, ABOVE_HOLE]);
+                end.wrapping_sub(dice.below(10))
+            }
+            6 => FOUR_GIB - dice.between(1, 4),
             _ => page.wrapping_add(deep),
         };
         self.cut(sp)
@@ -251,7 +279,12 @@ impl World {
     /// An address on or close to a page of the shadow stacks, a multiple of
     /// some step.
     pub fn near_shadow(&self, dice: &mut Dice, step: u64) -> u64 {
-        let page = dice.one_of(&self.shadow);
+        self.near(dice, &self.shadow, step)
+    }
+
+    /// The same with one of these pages.
+    pub fn near(&self, dice: &mut Dice, pages: &[u64], step: u64) -> u64 {
+        let page = dice.one_of(pages);
         let near = step * dice.below(4);
         let address = match dice.below(12) {
             0 => page.wrapping_add(near),
@@ -308,6 +341,21 @@ impl World {
             }
             self.tokens.push(at);
         }
+    }
+
+    /// Sets a return address where SP is and the same, or nearly, where SSP is.
+    fn plant_frame(&self, dice: &mut Dice, case: &mut Case) {
+        let near = dice.one_of(&LANDMARKS).wrapping_add(dice.below(3));
+        let limit = self.limit + dice.below(2);
+        let low = dice.below(0x80_0000);
+        let target = dice.one_of(&[near.wrapping_sub(1), limit, low, low]);
+        let other = match dice.below(8) {
+            0 => target ^ (1 << dice.below(32)),
+            1 => target ^ (1 << dice.between(32, 63)),
+            _ => target,
+        };
+        set(case, case.state[field::SSP], other);
+        set(case, case.state[field::SP], target);
     }
 
     /// Sets a token of a previous pointer where SSP is, now and then.

@@ -2,7 +2,7 @@
 //! and by the library it is the same.
 
 use driftpocket_compare::rows::{Row, check_all};
-use driftpocket_compare::{edges, refusals, tokens, worked};
+use driftpocket_compare::{edges, refusals, returns, tokens, user_writes, worked};
 
 /// Checks rows, of which there must be so many at least.
 fn check(rows: &[Row], least: usize) {
@@ -25,7 +25,7 @@ fn worked_cases() {
 
 #[test]
 fn edges_of_lists_lengths_pointers_and_targets() {
-    check(&edges::rows(), 74);
+    check(&edges::rows(), 78);
 }
 
 #[test]
@@ -34,6 +34,16 @@ fn tokens_just_right_and_just_wrong() {
 }
 
 #[test]
+fn returns_that_match_and_returns_that_do_not() {
+    check(&returns::rows(), 193);
+}
+
+#[test]
+fn writes_for_user_code() {
+    check(&user_writes::rows(), 324);
+}
+
+#[test]
 fn refusals_and_their_order() {
-    check(&refusals::rows(), 1909);
+    check(&refusals::rows(), 2353);
 }

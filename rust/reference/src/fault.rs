@@ -54,6 +54,12 @@ pub enum Part {
     OrdinaryPush,
     /// The push on the shadow stack.
     ShadowPush,
+    /// The pop of a return address off the ordinary stack.
+    OrdinaryPop,
+    /// The pop of a return address off the shadow stack.
+    ShadowPop,
+    /// The store of a value to a shadow stack of user code.
+    UserValue,
 }
 
 /// Why an operation can't be done.
@@ -65,6 +71,10 @@ pub enum Fault {
     NotEnabled,
     /// Plain writes to shadow stacks are not permitted.
     WritesNotPermitted,
+    /// CR4.CET is 0, which is all that a write for user code asks for first.
+    CetIsOff,
+    /// Code of this level may not write for user code.
+    LevelAboveZero,
     /// An address is not a multiple of what it must be one of.
     Misaligned,
     /// A shadow access has a byte that is not canonical.
@@ -84,14 +94,20 @@ pub enum Fault {
     /// The token of the previous pointer has more than 32 bits outside 64-bit
     /// mode.
     PreviousHigh,
-    /// The target of a call is not canonical.
+    /// The target of a call or return is not canonical.
     TargetNotCanonical,
-    /// The target of a call lies above the code limit.
+    /// The target of a call or return lies above the code limit.
     TargetAboveLimit,
     /// The ordinary push has a byte that is not canonical.
     PushNotCanonical,
     /// The ordinary push does not end at or below 2^32.
     PushPastEnd,
+    /// The ordinary pop has a byte that is not canonical.
+    PopNotCanonical,
+    /// The ordinary pop does not end at or below 2^32.
+    PopPastEnd,
+    /// The two stacks hold different return addresses.
+    ReturnsDiffer,
     /// An access has no right page at this address.
     Page(Part, u64),
 }
@@ -108,15 +124,20 @@ impl Fault {
     /// The vector that is reported.
     pub fn vector(&self) -> Vector {
         match self {
-            Fault::RealMode | Fault::NotEnabled | Fault::WritesNotPermitted => {
+            Fault::RealMode | Fault::NotEnabled | Fault::WritesNotPermitted | Fault::CetIsOff => {
                 Vector::InvalidOpcode
             }
-            Fault::RestoreMark | Fault::RestoreHigh | Fault::RestorePlace => {
-                Vector::ControlProtection
-            }
-            Fault::PushNotCanonical | Fault::PushPastEnd => Vector::Stack,
+            Fault::RestoreMark
+            | Fault::RestoreHigh
+            | Fault::RestorePlace
+            | Fault::ReturnsDiffer => Vector::ControlProtection,
+            Fault::PushNotCanonical
+            | Fault::PushPastEnd
+            | Fault::PopNotCanonical
+            | Fault::PopPastEnd => Vector::Stack,
             Fault::Page(..) => Vector::Page,
-            Fault::Misaligned
+            Fault::LevelAboveZero
+            | Fault::Misaligned
             | Fault::ShadowNotCanonical(_)
             | Fault::GapInLongMode
             | Fault::GapNotZero
@@ -129,8 +150,9 @@ impl Fault {
 
     /// The error code that is reported.
     pub fn error_code(&self) -> u64 {
-        match self.vector() {
-            Vector::ControlProtection => 4,
+        match self {
+            Fault::ReturnsDiffer => 1,
+            Fault::RestoreMark | Fault::RestoreHigh | Fault::RestorePlace => 4,
             _ => 0,
         }
     }
@@ -154,8 +176,12 @@ mod tests {
             (Fault::RealMode, 6, 0),
             (Fault::NotEnabled, 6, 0),
             (Fault::WritesNotPermitted, 6, 0),
+            (Fault::CetIsOff, 6, 0),
             (Fault::PushNotCanonical, 12, 0),
             (Fault::PushPastEnd, 12, 0),
+            (Fault::PopNotCanonical, 12, 0),
+            (Fault::PopPastEnd, 12, 0),
+            (Fault::LevelAboveZero, 13, 0),
             (Fault::Misaligned, 13, 0),
             (Fault::ShadowNotCanonical(Part::Token), 13, 0),
             (Fault::GapInLongMode, 13, 0),
@@ -167,6 +193,7 @@ mod tests {
             (Fault::RestoreMark, 21, 4),
             (Fault::RestoreHigh, 21, 4),
             (Fault::RestorePlace, 21, 4),
+            (Fault::ReturnsDiffer, 21, 1),
         ] {
             assert_eq!(fault.vector().number(), vector, "{fault:?}");
             assert_eq!(fault.error_code(), error_code, "{fault:?}");

@@ -16,7 +16,7 @@
 //! * [`transaction`]: several of them that take effect together or not at all.
 //! * [`processor`]: the ten fields of a state, refusal 5, what follows from it.
 //! * [`fault`]: why an operation can't be done, and what is reported of it.
-//! * [`operations`]: reading an instruction, refusal 6, the five operations.
+//! * [`operations`]: reading an instruction, refusal 6, the operations.
 //! * [`runs`]: whole runs, all refusals in their order, any input whatever.
 //! * [`sheet`]: run sheets read and written, refusals 8 and 9.
 //! * [`script`]: scripts of commands, from bytes in to bytes out.

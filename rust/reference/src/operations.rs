@@ -1,7 +1,11 @@
-//! The five operations, each as a single step from one state to the next.
+//! The operations, each as a single step from one state to the next.
 //!
 //! An operation works on a copy of the state and inside a transaction. Only
-//! when it has come to its end do both take effect.
+//! when it has come to its end do both take effect. Two of them have files of
+//! their own: `near_return` and `user_write`.
+
+mod near_return;
+mod user_write;
 
 use crate::address::{Width, is_canonical};
 use crate::fault::{Fault, Part};
@@ -44,6 +48,10 @@ enum Operation {
     Write { size: Size, at: u64, value: u64 },
     /// CALL.
     Call(Target),
+    /// RET, with so many bytes to be dropped besides.
+    Return { count: u64 },
+    /// WRUSS: write to a shadow stack of user code.
+    WriteForUser { size: Size, at: u64, value: u64 },
 }
 
 /// Where a call goes.
@@ -92,6 +100,20 @@ impl Instruction {
                 Operation::Call(Target::Relative(signed(displacement)?))
             }
             (8, target, 0) if mode != Mode::Real => Operation::Call(Target::Absolute(target)),
+            (9, 0, 0) if mode != Mode::Real => Operation::Return { count: 0 },
+            (10, count, 0) if mode != Mode::Real && count < near_return::COUNTS => {
+                Operation::Return { count }
+            }
+            (11, at, value) => Operation::WriteForUser {
+                size: Size::Four,
+                at,
+                value,
+            },
+            (12, at, value) if !narrow => Operation::WriteForUser {
+                size: Size::Eight,
+                at,
+                value,
+            },
             _ => return None,
         };
         Some(Instruction { length, operation })
@@ -141,10 +163,12 @@ impl Machine<'_> {
             Operation::SavePrevious => self.save_previous(),
             Operation::Write { size, at, value } => self.write(size, at, value),
             Operation::Call(target) => self.call(target),
+            Operation::Return { count } => self.near_return(count),
+            Operation::WriteForUser { size, at, value } => self.write_for_user(size, at, value),
         }
     }
 
-    /// The first check of every operation but the call.
+    /// The first check of the operations that need shadow stacks.
     fn need_shadow_stacks(&self) -> Result<(), Fault> {
         if self.state.mode == Mode::Real {
             return Err(Fault::RealMode);
@@ -250,11 +274,7 @@ impl Machine<'_> {
             Target::Relative(by) => self.state.mode.width().reduce(i128::from(next) + by),
         };
         self.check_target(target)?;
-        let size = if self.state.mode.is_long() {
-            Size::Eight
-        } else {
-            Size::Four
-        };
+        let size = self.return_size();
         self.push_ordinary(size, next)?;
         if self.state.is_enabled() {
             self.push_shadow(size, next)?;
@@ -263,7 +283,16 @@ impl Machine<'_> {
         Ok(())
     }
 
-    /// Whether code may lie at the target of a call.
+    /// The size of a return address, on either stack.
+    fn return_size(&self) -> Size {
+        if self.state.mode.is_long() {
+            Size::Eight
+        } else {
+            Size::Four
+        }
+    }
+
+    /// Whether code may lie at the target of a call or return.
     fn check_target(&self, target: u64) -> Result<(), Fault> {
         if self.state.mode.is_long() {
             if !is_canonical(target) {
@@ -326,23 +355,39 @@ impl Machine<'_> {
         self.store_shadow(Part::ShadowPush, size, self.state.ssp, value)
     }
 
+    /// An access to the ordinary stack.
+    fn ordinary(&self, size: Size, first: u64) -> Access {
+        Access {
+            kind: Kind::Ordinary,
+            width: self.state.mode.width(),
+            canonical: false,
+            size,
+            first,
+        }
+    }
+
+    /// Whether an access has bytes where no ordinary stack can be: where they
+    /// are not canonical in 64-bit mode, past the end of memory elsewhere.
+    fn leaves_the_stack(&self, access: &Access) -> bool {
+        let mode = self.state.mode;
+        if mode.is_long() {
+            !access.addresses().into_iter().all(is_canonical)
+        } else {
+            i128::from(access.first) + access.size.bytes() > mode.width().modulus()
+        }
+    }
+
     /// Moves SP down and stores there.
     fn push_ordinary(&mut self, size: Size, value: u64) -> Result<(), Fault> {
         let mode = self.state.mode;
         let exact = i128::from(self.state.sp) - size.bytes();
-        let access = Access {
-            kind: Kind::Ordinary,
-            width: mode.width(),
-            canonical: false,
-            size,
-            first: mode.width().reduce(exact),
-        };
-        if mode.is_long() {
-            if !access.addresses().into_iter().all(is_canonical) {
-                return Err(Fault::PushNotCanonical);
-            }
-        } else if i128::from(access.first) + size.bytes() > mode.width().modulus() {
-            return Err(Fault::PushPastEnd);
+        let access = self.ordinary(size, mode.width().reduce(exact));
+        if self.leaves_the_stack(&access) {
+            return Err(if mode.is_long() {
+                Fault::PushNotCanonical
+            } else {
+                Fault::PushPastEnd
+            });
         }
         self.memory
             .store(&access, value)

@@ -6,6 +6,9 @@
 //! from what the operation needs, close to an edge, and then mostly breaks one
 //! of these needs or none. The same seed always gives the same lines.
 
+mod returns;
+mod user_writes;
+
 use crate::address::{ABOVE_HOLE, HOLE, LAST_PAGE, is_canonical};
 use crate::dice::Dice;
 use crate::pages::PAGE_BYTES;
@@ -266,12 +269,14 @@ impl Author {
 
     /// Plays one scene.
     fn play_scene(&mut self) {
-        match self.dice.below(12) {
+        match self.dice.below(18) {
             0 | 1 => self.increment_scene(),
             2 | 3 => self.restore_scene(),
             4..=7 => self.save_scene(),
             8 => self.write_scene(),
-            _ => self.call_scene(),
+            9..=11 => self.call_scene(),
+            12..=15 => self.return_scene(),
+            _ => self.user_write_scene(),
         }
     }
 
@@ -434,15 +439,18 @@ impl Author {
         if sketch.mode == 1 {
             a &= LOW_HALF;
             b &= LOW_HALF;
-            if (code == 2 || code == 6) && !self.dice.once_in(6) {
+            if [2, 6, 12].contains(&code) && !self.dice.once_in(6) {
                 code -= 1;
             }
         }
-        if sketch.mode == 0 && code >= 7 && !self.dice.once_in(3) {
+        let refused = sketch.mode == 0 && (7..=10).contains(&code);
+        if refused && !self.dice.once_in(3) {
             return;
         }
-        if code == 7 && self.dice.once_in(40) {
-            a += FOUR_GIB;
+        match code {
+            7 if self.dice.once_in(40) => a += FOUR_GIB,
+            10 if self.dice.once_in(40) => a += returns::COUNTS,
+            _ => {}
         }
         if self.dice.once_in(40) {
             match self.dice.below(4) {
@@ -457,18 +465,19 @@ impl Author {
 
     /// Writes one more operation down that has not been prepared.
     fn encore(&mut self, sketch: &Sketch) {
-        let code = self.dice.between(1, 8);
+        let code = self.dice.between(1, 12);
         let length = self.length();
         let words = match code {
             1 | 2 => [code, length, 0, self.dice.below(4)],
             3 => [code, length, self.near_shadow(sketch, 8), 0],
             4 => [code, length, 0, 0],
-            5 | 6 => {
+            5 | 6 | 11 | 12 => {
                 let at = self.near_shadow(sketch, 8);
                 [code, length, at, self.dice.any()]
             }
             7 => [code, length, self.displacement(), 0],
-            _ => [code, length, self.dice.below(FOUR_GIB), 0],
+            8 => [code, length, self.dice.below(FOUR_GIB), 0],
+            _ => self.return_words(),
         };
         self.do_line(sketch, words);
     }

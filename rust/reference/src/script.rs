@@ -205,7 +205,7 @@ fn read_state(fields: &mut Fields) -> Result<Command, WrongField> {
 fn read_instruction(fields: &mut Fields) -> Result<Command, WrongField> {
     let up_to = |last| move |number| (1..=last).contains(&number).then_some(number);
     Ok(Command::Do([
-        fields.take_as(up_to(8))?,
+        fields.take_as(up_to(12))?,
         fields.take_as(up_to(15))?,
         fields.take_number()?,
         fields.take_number()?,
@@ -568,7 +568,7 @@ mod tests {
             ("word 0 0 0", 4),
             ("do", 2),
             ("do 0 1 0 0", 2),
-            ("do 9 1 0 0", 2),
+            ("do d 1 0 0", 2),
             ("do 100000001 1 0 0", 2),
             ("do 1 0 0 0", 3),
             ("do 1 10 0 0", 3),
@@ -592,10 +592,12 @@ mod tests {
     #[test]
     fn before_the_first_state() {
         assert_eq!(
-            answers("do 1 1 0 0\ndo 7 1 0 0\nword 0 0"),
+            answers("do 1 1 0 0\ndo 7 1 0 0\ndo a 1 8 0\ndo c 1 8 0\nword 0 0"),
             [
                 "fault 6 0 0 state 0 0 0 0 0 0 0 0 0 0",
                 "refusal 6",
+                "refusal 6",
+                "fault 6 0 0 state 0 0 0 0 0 0 0 0 0 0",
                 "no page 0",
             ]
         );

@@ -4,8 +4,9 @@
 //! brackets. From these words alone, without the program, the whole output is
 //! put together and compared. The words are:
 //!
-//! * `[#UD]`, `[#SS]`, `[#GP]`, `[#CP]` or `[#PF ADDRESS]`: this fault, and
-//!   neither the state nor a byte changes;
+//! * `[#UD]`, `[#SS]`, `[#GP]`, `[#CP ERROR-CODE]` or `[#PF ADDRESS]`: this
+//!   fault, and neither the state nor a byte changes. The error code of #CP is 4
+//!   where none is named;
 //! * `[refusal N]`: just this;
 //! * `[no page ADDRESS]`: just this, and nothing is set;
 //! * `[field N]`: the line is malformed from its N-th field on, in decimal;
@@ -81,7 +82,7 @@ impl Ledger {
             "#UD" => "fault 6 0 0".to_string(),
             "#SS" => "fault c 0 0".to_string(),
             "#GP" => "fault d 0 0".to_string(),
-            "#CP" => "fault 15 4 0".to_string(),
+            "#CP" => format!("fault 15 {} 0", words.next().unwrap_or("4")),
             _ => panic!("{expected}"),
         };
         let state: String = self

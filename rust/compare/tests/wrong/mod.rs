@@ -1,11 +1,12 @@
 //! Parts that are wrong on purpose, each in one thing.
 //!
 //! All of them call the library and then spoil what it did, either after the
-//! whole run or after each single instruction.
+//! whole run or after each single instruction. Those that are wrong about RET
+//! and about WRUSS have files of their own.
 
 use driftpocket::run_raw as right;
 use driftpocket_compare::answer::{CP, FAULT, GP, PF};
-use driftpocket_compare::case::{PAGE, Part, field};
+use driftpocket_compare::case::{FOUR_GIB, PAGE, Part, field, is_enabled};
 
 /// A whole run with something done to it afterwards.
 macro_rules! wrong_run {
@@ -30,6 +31,9 @@ macro_rules! wrong_step {
         ));
     };
 }
+
+mod returns;
+mod user_writes;
 
 /// A single instruction that was carried out rightly.
 struct Step<'run> {
@@ -56,6 +60,81 @@ impl Step<'_> {
 
     fn is_increment(&self) -> bool {
         matches!(self.code(), 1 | 2)
+    }
+
+    /// Whether this is RET.
+    fn is_return(&self) -> bool {
+        matches!(self.code(), 9 | 10)
+    }
+
+    /// Whether this is WRUSS.
+    fn is_user_write(&self) -> bool {
+        matches!(self.code(), 11 | 12)
+    }
+
+    /// Whether 64-bit mode was on.
+    fn is_wide(&self) -> bool {
+        self.before[field::MODE] == 2
+    }
+
+    /// Whether shadow stacks were enabled.
+    fn was_enabled(&self) -> bool {
+        is_enabled(&self.before)
+    }
+
+    /// A pointer, cut down to the addresses of the mode.
+    fn cut(&self, pointer: u64) -> u64 {
+        if self.is_wide() {
+            pointer
+        } else {
+            pointer % FOUR_GIB
+        }
+    }
+
+    /// The bytes of a return address.
+    fn return_size(&self) -> u64 {
+        if self.is_wide() { 8 } else { 4 }
+    }
+
+    /// Gives everything back and ends with this fault.
+    fn fault(&mut self, vector: u64) {
+        self.undo();
+        self.report = [0, 0, vector, 0, 0];
+    }
+
+    /// Makes state and bytes what they were before.
+    fn undo(&mut self) {
+        self.state.copy_from_slice(&self.before);
+        self.bytes.copy_from_slice(&self.old_bytes);
+    }
+
+    /// Does these words instead, on this state and these pages.
+    fn redo(&mut self, state: &[u64], pages: &[u64], words: &[u64]) {
+        self.undo();
+        self.state.copy_from_slice(state);
+        self.report = [0; 5];
+        right(self.state, pages, self.bytes, words, &mut self.report);
+    }
+
+    /// The report of these words from this state, without any effect.
+    fn probe(&self, state: &[u64], words: &[u64]) -> [u64; 5] {
+        let mut report = [0; 5];
+        let mut bytes = self.old_bytes.clone();
+        right(
+            &mut state.to_vec(),
+            self.pages,
+            &mut bytes,
+            words,
+            &mut report,
+        );
+        report
+    }
+
+    /// The state before, with another field.
+    fn before_with(&self, field: usize, value: u64) -> Vec<u64> {
+        let mut state = self.before.clone();
+        state[field] = value;
+        state
     }
 
     /// The place of a byte, if its page is listed.
@@ -323,8 +402,18 @@ wrong_step!(drops_one_element_fewer, |step| {
     }
 });
 
+/// A wrong part with its name.
+type Named = (&'static str, Part);
+
 /// All of them with their names.
-pub const ALL: &[(&str, Part)] = &[
+pub fn all() -> impl Iterator<Item = Named> {
+    [COMMON, returns::ALL, user_writes::ALL]
+        .concat()
+        .into_iter()
+}
+
+/// Those of this file.
+const COMMON: &[Named] = &[
     ("counts one too many", counts_one_too_many),
     ("always page fault", always_page_fault),
     ("refuses everything", refuses_everything),
@@ -359,6 +448,6 @@ wrong_step!(unspoiled, |_step| {});
 
 /// The part that has this name.
 pub fn named(name: &str) -> Part {
-    let (_, part) = ALL.iter().find(|(other, _)| *other == name).expect(name);
-    *part
+    let (_, part) = all().find(|(other, _)| *other == name).expect(name);
+    part
 }

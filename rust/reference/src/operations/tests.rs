@@ -1,5 +1,8 @@
 //! Tests of single steps: the thirteen worked ones first.
 
+mod near_return;
+mod user_write;
+
 use super::step as take_step;
 use super::*;
 use crate::address::{ABOVE_HOLE, HOLE};
@@ -246,7 +249,7 @@ fn p13_a_gap_is_popped_outside_mode_2() {
 // What comes before every operation.
 
 #[test]
-fn real_mode_knows_none_of_the_first_six() {
+fn real_mode_knows_no_shadow_stacks_and_no_calls() {
     let mut bench = Bench::worked().with(MODE, 0).with(U_CET, 3);
     for (code, a, b) in [
         (1, 0, 1),
@@ -256,10 +259,12 @@ fn real_mode_knows_none_of_the_first_six() {
         (5, 0x1000, 0),
         (6, 0x1000, 0),
         (6, 1 << 32, 1 << 32),
+        (11, 0x1000, 0),
+        (12, 1 << 32, 1 << 32),
     ] {
         assert_eq!(bench.fault(code, a, b), Fault::RealMode);
     }
-    for code in [7, 8] {
+    for code in [7, 8, 9, 10] {
         assert_eq!(bench.step(code, 5, 0, 0), Outcome::Refused);
     }
 }
@@ -298,27 +303,30 @@ fn forms_of_instructions() {
     for mode in [Mode::Real, Mode::Protected, Mode::Long] {
         let real = mode == Mode::Real;
         let narrow = mode == Mode::Protected;
-        for code in [0, 9, 1 << 32 | 1, u64::MAX] {
+        for code in [0, 13, 1 << 32 | 1, u64::MAX] {
             assert!(refused(mode, [code, 1, 0, 0]));
         }
-        for code in 1..=8 {
+        for code in 1..=12 {
             let known = match code {
-                2 | 6 => !narrow,
-                7 | 8 => !real,
+                2 | 6 | 12 => !narrow,
+                7..=10 => !real,
                 _ => true,
             };
             assert_eq!(refused(mode, [code, 1, 0, 0]), !known);
             assert_eq!(refused(mode, [code, 15, 0, 0]), !known);
             assert!(refused(mode, [code, 0, 0, 0]));
             assert!(refused(mode, [code, 16, 0, 0]));
-            let uses_a = [3, 5, 6, 7, 8].contains(&code);
-            let uses_b = [1, 2, 5, 6].contains(&code);
+            let uses_a = [3, 5, 6, 7, 8, 10, 11, 12].contains(&code);
+            let uses_b = [1, 2, 5, 6, 11, 12].contains(&code);
             assert_eq!(refused(mode, [code, 1, 1, 0]), !known || !uses_a);
             assert_eq!(refused(mode, [code, 1, 0, 1]), !known || !uses_b);
+            assert_eq!(refused(mode, [code, 1, 0xffff, 0]), !known || !uses_a);
+            let long_a = uses_a && code != 10;
+            assert_eq!(refused(mode, [code, 1, 0x1_0000, 0]), !known || !long_a);
             let most = 0xffff_ffff;
-            assert_eq!(refused(mode, [code, 1, most, 0]), !known || !uses_a);
+            assert_eq!(refused(mode, [code, 1, most, 0]), !known || !long_a);
             assert_eq!(refused(mode, [code, 1, 0, most]), !known || !uses_b);
-            let wide_a = uses_a && !narrow && code != 7;
+            let wide_a = long_a && !narrow && code != 7;
             assert_eq!(refused(mode, [code, 1, most + 1, 0]), !known || !wide_a);
             let wide_b = uses_b && !narrow;
             assert_eq!(refused(mode, [code, 1, 0, most + 1]), !known || !wide_b);

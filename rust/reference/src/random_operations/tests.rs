@@ -54,6 +54,8 @@ fn operation_sorts(code: u64, before: [u64; 10], attempt: Attempt) -> Vec<String
                 3 => format!(", carry {}", after[8] % 2),
                 4 => format!(", popped {}", moved(before[7], after[7])),
                 7 | 8 => format!(", pushed {}", moved(after[7], before[7])),
+                9 | 10 => format!(", popped {}", moved(before[7], after[7])),
+                11 | 12 => format!(", S_CET {}", before[4] % 4),
                 _ => String::new(),
             };
             let at_level = format!("do {code}: CPL {cpl}, completed");
@@ -98,9 +100,10 @@ fn wanted_faults() -> Vec<(&'static [u64], &'static [u64], Vec<String>)> {
         let name = |part| format!("{:?}", Fault::ShadowNotCanonical(part));
         parts.iter().copied().map(name).collect()
     };
+    let user_write = named(&[Fault::CetIsOff, Fault::LevelAboveZero, Fault::Misaligned]);
     use Part::*;
     vec![
-        (&[1, 2, 3, 4, 5, 6], &[0], named(&[Fault::RealMode])),
+        (&[1, 2, 3, 4, 5, 6, 11, 12], &[0], named(&[Fault::RealMode])),
         (&[1, 3, 4, 5], &[1, 2], named(&[Fault::NotEnabled])),
         (&[2, 6], &[2], named(&[Fault::NotEnabled])),
         (&[1], &[1, 2], on_page(&[FirstElement, LastElement])),
@@ -139,12 +142,30 @@ fn wanted_faults() -> Vec<(&'static [u64], &'static [u64], Vec<String>)> {
         ),
         (&[7, 8], &[1, 2], on_page(&[OrdinaryPush, ShadowPush])),
         (&[7, 8], &[2], in_hole(&[ShadowPush])),
+        (
+            &[9, 10],
+            &[1],
+            named(&[Fault::TargetAboveLimit, Fault::PopPastEnd]),
+        ),
+        (
+            &[9, 10],
+            &[2],
+            named(&[Fault::TargetNotCanonical, Fault::PopNotCanonical]),
+        ),
+        (&[9, 10], &[1, 2], named(&[Fault::ReturnsDiffer])),
+        (&[9, 10], &[1, 2], on_page(&[OrdinaryPop, ShadowPop])),
+        (&[9, 10], &[2], in_hole(&[ShadowPop])),
+        (&[11], &[1, 2], user_write.clone()),
+        (&[12], &[2], user_write),
+        (&[11], &[1, 2], on_page(&[UserValue])),
+        (&[12], &[2], on_page(&[UserValue])),
+        (&[11, 12], &[2], in_hole(&[UserValue])),
     ]
 }
 
 /// The ways in which each operation completes, with the modes in which it
 /// does.
-const WANTED_COMPLETIONS: [(&[u64], &[u64], &str); 9] = [
+const WANTED_COMPLETIONS: [(&[u64], &[u64], &str); 20] = [
     (&[1, 5], &[1, 2], "completed"),
     (&[2, 6], &[2], "completed"),
     (&[3], &[1, 2], "completed, carry 0"),
@@ -154,12 +175,23 @@ const WANTED_COMPLETIONS: [(&[u64], &[u64], &str); 9] = [
     (&[7, 8], &[1, 2], "completed, pushed 0"),
     (&[7, 8], &[1], "completed, pushed 4"),
     (&[7, 8], &[2], "completed, pushed 8"),
+    (&[9, 10], &[1, 2], "completed, popped 0"),
+    (&[9, 10], &[1], "completed, popped 4"),
+    (&[9, 10], &[2], "completed, popped 8"),
+    (&[11], &[1, 2], "completed, S_CET 0"),
+    (&[12], &[2], "completed, S_CET 0"),
+    (&[11], &[1, 2], "completed, S_CET 1"),
+    (&[12], &[2], "completed, S_CET 1"),
+    (&[11], &[1, 2], "completed, S_CET 2"),
+    (&[12], &[2], "completed, S_CET 2"),
+    (&[11], &[1, 2], "completed, S_CET 3"),
+    (&[12], &[2], "completed, S_CET 3"),
 ];
 
 #[test]
 fn every_sort_of_answer_comes_up() {
     let mut counts = BTreeMap::new();
-    for seed in 0..10 {
+    for seed in 0..15 {
         count_sorts(seed, &mut counts);
     }
     for (sort, count) in &counts {
@@ -181,10 +213,14 @@ fn every_sort_of_answer_comes_up() {
             often(&format!("do {code}: mode {mode}, {name}"), 10);
         }
     }
-    for (code, cpl) in pairs(&[1, 2, 3, 4, 5, 6, 7, 8], &[0, 1, 2, 3]) {
+    for (code, cpl) in pairs(&[1, 2, 3, 4, 5, 6, 7, 8, 9, 10], &[0, 1, 2, 3]) {
         often(&format!("do {code}: CPL {cpl}, completed"), 10);
     }
-    for code in 1..=8 {
+    for (code, cpl) in pairs(&[11, 12], &[1, 2, 3]) {
+        let sort = format!("do {code}: CPL {cpl}, completed");
+        assert_eq!(counts.get(&sort), None, "{sort}");
+    }
+    for code in 1..=12 {
         often(&format!("do {code}: refusal 6"), 10);
     }
     for number in 1..=5 {
