@@ -162,7 +162,7 @@ fn access_allows(place: usize, n: u64) -> bool {
 // Whether n can be the number at a place of an operation: code, length, words A and B.
 fn operation_allows(place: usize, n: u64) -> bool {
     match place {
-        0 => 1 <= n && n <= 8,
+        0 => 1 <= n && n <= 12,
         1 => 1 <= n && n <= 15,
         _ => true,
     }
