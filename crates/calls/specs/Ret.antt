@@ -28,7 +28,7 @@ ret count s =
     let size : Size = pushed s in
     do
       unless (not (runsPast s (s .sp))) ss  -- #SS(0)
-      target ← load (ordinary s (s .sp) size false)
+      target ← load (ordinary s (s .sp) size false)  -- #SS(0) where a byte is not canonical
       ssp ← newSsp s target
       unless (inCode s target) gp  -- #GP(0)
       done (withIp (withSsp (withSp s (plus s (plus s (s .sp) (byteCount size)) count)) ssp) target)

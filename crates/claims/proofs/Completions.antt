@@ -19,7 +19,7 @@ use Rattle.replay.specs.Permission.{writeBit, withoutWrite, withCet, hidden, sh
 use Rattle.replay.specs.Exec.{operationOf, exec, perform}
 use Rattle.replay.specs.Codes.{target, operationFrom9, operation, codes}
 use Rattle.replay.specs.declared.instruction.Instruction.{Instruction}
-use Rattle.claims.specs.Ledger.{frame, popped, pushedBy}
+use Rattle.claims.specs.Ledger.{frameBytes, popped, pushedBy}
 use Rattle.claims.proofs.CodeNames.{Named, wrss, incssp, rstorssp, saveprevssp, call, ret, wruss, unknown, named}
 use Rattle.claims.proofs.Leaves.{Leaves, then-leaves, performed}
 use Rattle.claims.proofs.OperationLeaves.{Kept, Pointer, incssp-leaves, wrss-leaves, rstorssp-leaves, pastToken, saveprevssp-leaves, belowPushed, call-leaves, pastFrame, ret-leaves, wruss-leaves}
@@ -41,8 +41,8 @@ enabled-alike s = ap (λ (n : ℕ). eqb (s .cet) 1 && eqb n 1) (go (userMode s))
     go true = odd-alike (s .ucet)
     go false = odd-alike (s .scet)
 
-frame-alike : (s : State) → frame (hidden s) ≡ frame s
-unfolding frame hidden
+frame-alike : (s : State) → frameBytes (hidden s) ≡ frameBytes s
+unfolding frameBytes hidden
 frame-alike s = rw (← enabled-alike s)
 
 popped-alike : (i : Instruction) (s : State) → popped i (hidden s) ≡ popped i s
@@ -79,8 +79,8 @@ past-turn s = go (carry s)
     go false = plus-back (widthOf s) (s .ssp) 8
 
 -- CALL
-below-turn : (s : State) → wrapped (widthOf s) (s .ssp + 0) ≡ wrapped (widthOf s) (belowPushed s + frame s)
-unfolding minus frame
+below-turn : (s : State) → wrapped (widthOf s) (s .ssp + 0) ≡ wrapped (widthOf s) (belowPushed s + frameBytes s)
+unfolding minus frameBytes
 below-turn s = go (enabled s)
   where
     go : (t : Bool) → wrapped (widthOf s) (s .ssp + 0) ≡ wrapped (widthOf s) (cond t (minus s (s .ssp) (byteCount (pushed s))) (s .ssp) + cond t (byteCount (pushed s)) 0)
@@ -88,8 +88,8 @@ below-turn s = go (enabled s)
     go false = refl
 
 -- RET
-frame-turn : (s : State) → wrapped (widthOf s) (s .ssp + frame s) ≡ wrapped (widthOf s) (pastFrame s + 0)
-unfolding plus frame
+frame-turn : (s : State) → wrapped (widthOf s) (s .ssp + frameBytes s) ≡ wrapped (widthOf s) (pastFrame s + 0)
+unfolding plus frameBytes
 frame-turn s = go (enabled s)
   where
     go : (t : Bool) → wrapped (widthOf s) (s .ssp + cond t (byteCount (pushed s)) 0) ≡ wrapped (widthOf s) (cond t (plus s (s .ssp) (byteCount (pushed s))) (s .ssp) + 0)

@@ -18,8 +18,8 @@ use Rattle.replay.specs.Run.{Run, run, after}
 use Rattle.replay.specs.declared.instruction.Instruction.{Instruction}
 
 -- bytes of a frame, which a call pushes and a return pops while enabled
-unfoldable pub frame : State → ℕ
-frame s = cond (enabled s) (byteCount (pushed s)) 0
+unfoldable pub frameBytes : State → ℕ
+frameBytes s = cond (enabled s) (byteCount (pushed s)) 0
 
 -- bytes popped by an instruction that completes from this opening state: Range elements by INCSSP, the token and, where CF is set, the
 -- hole by SAVEPREVSSP, a frame by RET
@@ -27,12 +27,12 @@ unfoldable pub popped : Instruction → State → ℕ
 popped i s =
     cond (isIncssp i) (byteCount (sizeOf i) * (i .b % 256))
     (cond (eqb (i .code) 4) (cond (carry s) 12 8)
-    (cond (isRet i) (frame s)
+    (cond (isRet i) (frameBytes s)
     0))
 
 -- bytes pushed by it: a frame by CALL
 unfoldable pub pushedBy : Instruction → State → ℕ
-pushedBy i s = cond (isCall i) (frame s) 0
+pushedBy i s = cond (isCall i) (frameBytes s) 0
 
 -- the sum over the first k instructions of what each one, with its opening state, counts for
 unfoldable pub sumOf : (Instruction → State → ℕ) → (ℕ → Instruction) → (ℕ → State) → ℕ → ℕ

@@ -24,7 +24,7 @@ shadow s = accessOf s (cond (userMode s) UserShadow SupervisorShadow)
 abbrev pub ordinary : State → ℕ → Size → Bool → Access
 ordinary s = accessOf s Ordinary
 
--- a byte that is not canonical: #GP(0) of a shadow access, #SS(0) of a push on the ordinary stack
+-- a byte that is not canonical: #GP(0) of a shadow access, #SS(0) of an access to the ordinary stack
 abbrev pub notCanonical : Kind → Fault
 notCanonical UserShadow = gp
 notCanonical SupervisorShadow = gp
