@@ -10,7 +10,8 @@
 //! * [`difference`]: two sightings side by side, and only what differs.
 //! * [`damage`]: ways to spoil an input so that it is refused.
 //! * [`rows`]: cases with what must come of them, written out by hand.
-//! * [`worked`]: the thirteen worked cases of the rules.
+//! * [`worked`]: the worked cases P1 to P13 of the rules.
+//! * [`worked_returns`]: those of RET and WRUSS, R1 to R12.
 //! * [`edges`]: limits of lists, lengths, pointers and targets.
 //! * [`tokens`]: tokens that are just right and just wrong.
 //! * [`returns`]: near RET, and what it is given by calls.
@@ -48,4 +49,5 @@ pub mod table;
 pub mod tokens;
 pub mod user_writes;
 pub mod worked;
+pub mod worked_returns;
 pub mod world;

@@ -1,4 +1,4 @@
-//! The thirteen worked cases of the rules, with the numbers that they name.
+//! The worked cases P1 to P13 of the rules, with the numbers that they name.
 
 use crate::answer::{Answer, GP, UD};
 use crate::case::{Case, field};

@@ -1,7 +1,8 @@
 //! A part that is wrong in one thing is noticed.
 
 use driftpocket_compare::rows::check_all;
-use driftpocket_compare::{edges, refusals, returns, rounds, tokens, user_writes, worked};
+use driftpocket_compare::{edges, refusals, returns, rounds, tokens, user_writes};
+use driftpocket_compare::{worked, worked_returns};
 
 mod wrong;
 
@@ -43,6 +44,7 @@ fn a_difference_can_be_rerun_and_shows_only_what_differs() {
 fn fixed_cases_notice_every_wrong_part() {
     let rows = [
         worked::rows(),
+        worked_returns::rows(),
         edges::rows(),
         tokens::rows(),
         returns::rows(),
@@ -66,6 +68,28 @@ fn the_worked_cases_alone_notice_the_poor_parts() {
     ] {
         assert!(
             check_all(wrong::named(name), &worked::rows()).is_err(),
+            "{name}"
+        );
+    }
+}
+
+#[test]
+fn the_worked_returns_and_user_writes_alone_notice_known_mistakes() {
+    for name in [
+        "forgets the count of RET",
+        "reads the shadow stack first",
+        "checks the target before the comparison",
+        "gives RET error code 4",
+        "keeps the shadow pop at a bad target",
+        "compares without shadow stacks",
+        "asks WRUSS for shadow stacks",
+        "lets user code use WRUSS",
+        "tests the alignment before CR4.CET",
+        "lets WRUSS reach all pages",
+        "writes half of eight bytes",
+    ] {
+        assert!(
+            check_all(wrong::named(name), &worked_returns::rows()).is_err(),
             "{name}"
         );
     }

@@ -2,7 +2,7 @@
 //! and by the library it is the same.
 
 use driftpocket_compare::rows::{Row, check_all};
-use driftpocket_compare::{edges, refusals, returns, tokens, user_writes, worked};
+use driftpocket_compare::{edges, refusals, returns, tokens, user_writes, worked, worked_returns};
 
 /// Checks rows, of which there must be so many at least.
 fn check(rows: &[Row], least: usize) {
@@ -12,15 +12,27 @@ fn check(rows: &[Row], least: usize) {
     assert!(rows.len() >= least, "only {} rows", rows.len());
 }
 
+/// Each worked case is there: this letter with each number up to the last.
+fn name_all(rows: &[Row], letter: char, last: u64) {
+    for number in 1..=last {
+        let name = format!("{letter}{number}");
+        let is_it = |row: &Row| row.name.split(',').next() == Some(&name);
+        assert!(rows.iter().any(is_it), "{name} is there");
+    }
+}
+
 #[test]
 fn worked_cases() {
     let rows = worked::rows();
     check(&rows, 19);
-    for number in 1..=13 {
-        let name = format!("P{number}");
-        let is_it = |row: &Row| row.name.split(',').next() == Some(&name);
-        assert!(rows.iter().any(is_it), "{name} is there");
-    }
+    name_all(&rows, 'P', 13);
+}
+
+#[test]
+fn worked_cases_of_returns_and_user_writes() {
+    let rows = worked_returns::rows();
+    check(&rows, 14);
+    name_all(&rows, 'R', 12);
 }
 
 #[test]

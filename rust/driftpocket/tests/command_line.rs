@@ -58,13 +58,16 @@ fn the_worked_cases() {
     assert_eq!(output.status.code(), Some(0));
     assert!(output.stderr.is_empty());
     let text = shown(&output);
-    for number in 1..=13 {
+    let first = (1..=13).map(|number| format!("P{number}"));
+    let second = (1..=12).map(|number| format!("R{number}"));
+    for name in first.chain(second) {
         let title = |line: &str| {
-            line.starts_with(&format!("P{number}.")) || line.starts_with(&format!("P{number},"))
+            line.strip_prefix(&name)
+                .is_some_and(|rest| rest.starts_with(['.', ',']))
         };
-        assert!(text.lines().any(title), "P{number}");
+        assert!(text.lines().any(title), "{name}");
     }
-    assert!(text.ends_with("16 runs replayed; 16 of them agree with the run as a whole\n"));
+    assert!(text.ends_with("29 runs replayed; 29 of them agree with the run as a whole\n"));
 }
 
 #[test]

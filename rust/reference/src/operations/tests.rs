@@ -1,7 +1,9 @@
-//! Tests of single steps: the thirteen worked ones first.
+//! Tests of single steps: the worked ones P1 to P13 first. Those of RET and
+//! WRUSS have files of their own, R1 to R12 among them.
 
 mod near_return;
 mod user_write;
+mod worked_returns;
 
 use super::step as take_step;
 use super::*;

@@ -1,7 +1,10 @@
-//! The worked cases of the rules, P1 to P13, as runs.
+//! The worked cases of the rules as runs: P1 to P13 here, R1 to R12 in
+//! `returns`.
 //!
 //! Where the rules leave a number open, it is chosen so that more can be seen:
 //! code runs at 400000, and bytes that are to become zero are not zero before.
+
+mod returns;
 
 use crate::input::Run;
 use driftpocket::{Instruction, Kind, PageError, PageList, Size, State};
@@ -14,11 +17,18 @@ const GOOD_TOKEN: Number = (0x2ff0, Size::Eight, 0x2ff9);
 
 /// All worked cases, in their order.
 pub fn runs() -> Result<Vec<Run>, PageError> {
-    [increments(), switches(), writes(), calls(), narrow()]
-        .into_iter()
-        .flatten()
-        .map(Case::run)
-        .collect()
+    [
+        increments(),
+        switches(),
+        writes(),
+        calls(),
+        narrow(),
+        returns::cases(),
+    ]
+    .into_iter()
+    .flatten()
+    .map(Case::run)
+    .collect()
 }
 
 /// A worked case.
@@ -230,7 +240,7 @@ mod tests {
     use std::path::Path;
 
     /// The stored sheets of the runs, in their order.
-    const SHEETS: [&str; 16] = [
+    const SHEETS: [&str; 29] = [
         "p01",
         "p02",
         "p03-first",
@@ -247,10 +257,23 @@ mod tests {
         "p11",
         "p12",
         "p13",
+        "r01",
+        "r02",
+        "r03",
+        "r04",
+        "r05",
+        "r06",
+        "r07",
+        "r08",
+        "r09",
+        "r10",
+        "r11-first",
+        "r11-second",
+        "r12",
     ];
 
-    /// What the rules say of each run: its outcome, and SSP, IP and RFLAGS
-    /// after it.
+    /// What the rules say of each run up to P13: its outcome, and SSP, IP and
+    /// RFLAGS after it.
     const ENDS: [(&str, u64, u64, u64); 16] = [
         ("1 completed", 0x1ff8, 0x40_0005, 0),
         ("0 completed, then #PF at 0x3000", 0x3000, 0x40_0000, 0),
@@ -295,7 +318,7 @@ mod tests {
     #[test]
     fn each_ends_as_the_rules_say() {
         let runs = runs().unwrap();
-        assert_eq!(runs.len(), ENDS.len());
+        assert_eq!(runs.len(), ENDS.len() + returns::cases().len());
         for (mut one, (text, ssp, ip, flags)) in runs.into_iter().zip(ENDS) {
             let before = one.state;
             let outcome = run(&mut one.state, &mut one.pages, &one.instructions);
@@ -328,7 +351,9 @@ mod tests {
     #[test]
     fn the_stored_sheets_are_these_runs() {
         let root = Path::new(env!("CARGO_MANIFEST_DIR")).join("../..");
-        for (run, name) in runs().unwrap().into_iter().zip(SHEETS) {
+        let runs = runs().unwrap();
+        assert_eq!(runs.len(), SHEETS.len());
+        for (run, name) in runs.into_iter().zip(SHEETS) {
             let sheet = Sheet {
                 state: run.state,
                 pages: run.pages,

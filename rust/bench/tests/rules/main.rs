@@ -1,4 +1,7 @@
-//! The worked cases and the edges of the rules (docs/RULES.md), given to both replays.
+//! The worked cases and the edges of the rules (docs/RULES.md), given to both replays. R1 to R12
+//! have a file of their own.
+
+mod worked_returns;
 
 use driftpocket_bench::{REPLAYS, outcome};
 
