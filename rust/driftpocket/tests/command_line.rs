@@ -59,7 +59,7 @@ fn the_worked_cases() {
     assert!(output.stderr.is_empty());
     let text = shown(&output);
     let first = (1..=13).map(|number| format!("P{number}"));
-    let second = (1..=12).map(|number| format!("R{number}"));
+    let second = (1..=17).map(|number| format!("R{number}"));
     for name in first.chain(second) {
         let title = |line: &str| {
             line.strip_prefix(&name)
@@ -67,7 +67,7 @@ fn the_worked_cases() {
         };
         assert!(text.lines().any(title), "{name}");
     }
-    assert!(text.ends_with("29 runs replayed; 29 of them agree with the run as a whole\n"));
+    assert!(text.ends_with("40 runs replayed; 40 of them agree with the run as a whole\n"));
 }
 
 #[test]

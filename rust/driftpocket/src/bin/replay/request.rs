@@ -16,7 +16,7 @@ usage: replay FILE             replay the run sheet in this file
                                the ends of lines, and say whether it is a sheet;
                                send it to another file than FILE
        replay --worked         replay the worked cases of the rules, P1 to P13
-                               and R1 to R12
+                               and R1 to R17
        replay --help           this text
 
 For a sheet it shows the state, the pages and what they hold, and then each

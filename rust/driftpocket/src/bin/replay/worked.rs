@@ -1,4 +1,4 @@
-//! The worked cases of the rules as runs: P1 to P13 here, R1 to R12 in
+//! The worked cases of the rules as runs: P1 to P13 here, R1 to R17 in
 //! `returns`.
 //!
 //! Where the rules leave a number open, it is chosen so that more can be seen:
@@ -240,7 +240,7 @@ mod tests {
     use std::path::Path;
 
     /// The stored sheets of the runs, in their order.
-    const SHEETS: [&str; 29] = [
+    const SHEETS: [&str; 40] = [
         "p01",
         "p02",
         "p03-first",
@@ -270,6 +270,17 @@ mod tests {
         "r11-first",
         "r11-second",
         "r12",
+        "r13-first",
+        "r13-second",
+        "r13-third",
+        "r14-first",
+        "r14-second",
+        "r15",
+        "r16-first",
+        "r16-second",
+        "r17-first",
+        "r17-second",
+        "r17-third",
     ];
 
     /// What the rules say of each run up to P13: its outcome, and SSP, IP and

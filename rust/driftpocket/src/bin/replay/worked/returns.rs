@@ -1,4 +1,4 @@
-//! The worked cases of near RET and WRUSS, R1 to R12.
+//! The worked cases of near RET and WRUSS, R1 to R17.
 
 use super::{Case, Number, case, user};
 use driftpocket::{Instruction, Size, State};
@@ -14,6 +14,10 @@ pub fn cases() -> Vec<Case> {
         not_enabled_and_narrow(),
         user_writes(),
         not_written(),
+        ends_of_memory(),
+        code_limits(),
+        other_levels_and_modes(),
+        broken_forms(),
     ]
     .into_iter()
     .flatten()
@@ -125,19 +129,23 @@ fn bare(cpl: u64) -> State {
 /// R9.
 fn user_writes() -> Vec<Case> {
     vec![case(
-        "R9. WRUSS at CPL 0 writes to a user shadow page, though nothing is enabled.",
+        "R9. WRUSS at CPL 0 writes to a user shadow page, 8 bytes and 4, though nothing is enabled.",
         bare(0),
-        &[],
+        &[(0x2ff0, Size::Eight, 0x1122_3344_5566_7788)],
         &[
-            Instruction::wrussq(5, 0x2ff0, 0x8877_6655_4433_2211),
+            Instruction::wrussq(5, 0x2fe8, 0x8877_6655_4433_2211),
             Instruction::wrussd(5, 0x2ff4, 0xddcc_bbaa_ffee_0099),
         ],
     )]
 }
 
+/// A write of 8 bytes for user code.
+fn eight(address: u64) -> [Instruction; 1] {
+    [Instruction::wrussq(5, address, 1)]
+}
+
 /// R10 to R12.
 fn not_written() -> Vec<Case> {
-    let eight = |address| [Instruction::wrussq(5, address, 0x1234_5678)];
     let no_cet = State { cet: 0, ..bare(3) };
     vec![
         case(
@@ -156,13 +164,122 @@ fn not_written() -> Vec<Case> {
             "R11, second part. WRUSSD does not reach ordinary memory: #PF at 0x5000.",
             bare(0),
             &[],
-            &[Instruction::wrussd(5, 0x5000, 0x1234_5678)],
+            &[Instruction::wrussd(5, 0x5000, 1)],
         ),
         case(
             "R12. WRUSSQ without CR4.CET: #UD, before the CPL and the address are tested.",
             no_cet,
             &[],
             &eight(0x2ff4),
+        ),
+    ]
+}
+
+/// R13.
+fn ends_of_memory() -> Vec<Case> {
+    let from = |mode, sp| State {
+        mode,
+        sp,
+        ..user(0x1ff0)
+    };
+    let back = [Instruction::ret(1)];
+    vec![
+        case(
+            "R13, first part. RET would pop bytes that are not canonical: #SS(0).",
+            from(2, HOLE - 4),
+            &[],
+            &back,
+        ),
+        case(
+            "R13, second part. RET in mode 1 would pop past 2^32: #SS(0).",
+            from(1, 0xffff_fffd),
+            &[],
+            &back,
+        ),
+        case(
+            "R13, third part. RET in mode 1 may pop up to 2^32; only the page is missing: #PF at 0xfffffffc.",
+            from(1, 0xffff_fffc),
+            &[],
+            &back,
+        ),
+    ]
+}
+
+/// R14.
+fn code_limits() -> Vec<Case> {
+    let both = [
+        (0x5010, Size::Four, 0x40_0005),
+        (0x1ff0, Size::Four, 0x40_0005),
+    ];
+    let below = |limit| State {
+        mode: 1,
+        limit,
+        ..user(0x1ff0)
+    };
+    let back = [Instruction::ret(1)];
+    vec![
+        case(
+            "R14, first part. RET in mode 1 may go to the code limit.",
+            below(0x40_0005),
+            &both,
+            &back,
+        ),
+        case(
+            "R14, second part. RET in mode 1 does not go above it: #GP(0), and nothing is popped.",
+            below(0x40_0004),
+            &both,
+            &back,
+        ),
+    ]
+}
+
+/// R15 and R16.
+fn other_levels_and_modes() -> Vec<Case> {
+    let kernel = State { scet: 1, ..bare(0) };
+    let real = State { mode: 0, ..bare(0) };
+    vec![
+        case(
+            "R15. RET at CPL 0 has a supervisor shadow stack, and this page is a user's: #PF at 0x1ff0.",
+            kernel,
+            &[on_top(0x40_0005), on_shadow(0x40_0005)],
+            &[Instruction::ret(1)],
+        ),
+        case(
+            "R16, first part. WRUSSQ is not for CPL 1 either: #GP(0).",
+            bare(1),
+            &[],
+            &eight(0x2ff0),
+        ),
+        case(
+            "R16, second part. There is no WRUSSQ in mode 0: #UD.",
+            real,
+            &[],
+            &eight(0x2ff0),
+        ),
+    ]
+}
+
+/// R17. The binding makes no RET with such a count, so its words are given.
+fn broken_forms() -> Vec<Case> {
+    let at = |mode| State { mode, ..bare(0) };
+    vec![
+        case(
+            "R17, first part. The byte count of RET has 16 bits, and 0x10000 is sent back: refusal 6.",
+            user(0x1ff0),
+            &[],
+            &[Instruction::from_words([10, 3, 0x1_0000, 0])],
+        ),
+        case(
+            "R17, second part. RET in mode 0 is sent back: refusal 6.",
+            at(0),
+            &[],
+            &[Instruction::ret(1)],
+        ),
+        case(
+            "R17, third part. WRUSSQ in mode 1 is sent back: refusal 6.",
+            at(1),
+            &[],
+            &eight(0x2ff0),
         ),
     ]
 }
@@ -182,8 +299,11 @@ mod tests {
     /// What the CALL leaves behind.
     const PUSHED: &[(u64, u64)] = &[(0x5008, 0x40_0005), (0x1fe8, 0x40_0005)];
 
+    /// What is said of a refused instruction.
+    const REFUSED: &str = "0 completed, then refusal 6: the instruction breaks its form";
+
     /// Of each run, in their order.
-    const ENDS: [End; 13] = [
+    const ENDS: [End; 24] = [
         ("2 completed", [0x40_0005, 0x5010, 0x1ff0], PUSHED),
         ("2 completed", [0x40_0005, 0x1_500f, 0x1ff0], PUSHED),
         ("0 completed, then #CP(NEAR-RET), error code 1", START, &[]),
@@ -203,12 +323,38 @@ mod tests {
         (
             "2 completed",
             [0x40_000a, 0x5010, 0x1ff0],
-            &[(0x2ff0, 0xffee_0099_4433_2211)],
+            &[
+                (0x2fe8, 0x8877_6655_4433_2211),
+                (0x2ff0, 0xffee_0099_5566_7788),
+            ],
         ),
         ("0 completed, then #GP(0)", START, &[]),
         ("0 completed, then #GP(0)", START, &[]),
         ("0 completed, then #PF at 0x5000", START, &[]),
         ("0 completed, then #UD", START, &[]),
+        (
+            "0 completed, then #SS(0)",
+            [0x40_0000, 0x7fff_ffff_fffc, 0x1ff0],
+            &[],
+        ),
+        (
+            "0 completed, then #SS(0)",
+            [0x40_0000, 0xffff_fffd, 0x1ff0],
+            &[],
+        ),
+        (
+            "0 completed, then #PF at 0xfffffffc",
+            [0x40_0000, 0xffff_fffc, 0x1ff0],
+            &[],
+        ),
+        ("1 completed", [0x40_0005, 0x5014, 0x1ff4], &[]),
+        ("0 completed, then #GP(0)", START, &[]),
+        ("0 completed, then #PF at 0x1ff0", START, &[]),
+        ("0 completed, then #GP(0)", START, &[]),
+        ("0 completed, then #UD", START, &[]),
+        (REFUSED, START, &[]),
+        (REFUSED, START, &[]),
+        (REFUSED, START, &[]),
     ];
 
     #[test]
