@@ -11,7 +11,7 @@
 //! * [`damage`]: ways to spoil an input so that it is refused.
 //! * [`rows`]: cases with what must come of them, written out by hand.
 //! * [`worked`]: the worked cases P1 to P13 of the rules.
-//! * [`worked_returns`]: those of RET and WRUSS, R1 to R12.
+//! * [`worked_returns`]: those of RET and WRUSS, R1 to R17.
 //! * [`edges`]: limits of lists, lengths, pointers and targets.
 //! * [`tokens`]: tokens that are just right and just wrong.
 //! * [`returns`]: near RET, and what it is given by calls.

@@ -1,9 +1,12 @@
-//! The worked cases of near RET and WRUSS, R1 to R12, with the numbers that
+//! The worked cases of near RET and WRUSS, R1 to R17, with the numbers that
 //! the rules name.
 
-use crate::answer::{Answer, GP, UD};
+use crate::answer::{Answer, GP, SS, UD};
 use crate::case::{Case, field};
 use crate::rows::{Row, plain};
+
+/// The refusal of an instruction that breaks its form.
+const REFUSED: Answer = Answer::refusal(6);
 
 /// The relative CALL of R1 and R2.
 const CALL: [u64; 4] = [7, 5, 0x10, 0];
@@ -19,14 +22,9 @@ fn dropping(count: u64) -> [u64; 4] {
     [10, 3, count, 0]
 }
 
-/// WRUSSD, with a value whose bytes are all different.
-fn write_four(at: u64) -> [u64; 4] {
-    [11, 5, at, 0xddcc_bbaa_ffee_0099]
-}
-
-/// WRUSSQ, with another such value.
+/// WRUSSQ of 1.
 fn write_eight(at: u64) -> [u64; 4] {
-    [12, 5, at, 0x8877_6655_4433_2211]
+    [12, 5, at, 1]
 }
 
 /// A RET from two stacks that hold these numbers.
@@ -53,6 +51,10 @@ pub fn rows() -> Vec<Row> {
         narrow(),
         user_writes(),
         not_written(),
+        ends_of_memory(),
+        code_limits(),
+        other_levels_and_modes(),
+        broken_forms(),
     ]
     .concat()
 }
@@ -120,14 +122,15 @@ fn narrow() -> Vec<Row> {
     ]
 }
 
-/// R9. Its second write covers half of what the first wrote, so the first is
-/// looked at alone too.
+/// R9. What stands at 2ff0 before shows which 4 bytes WRUSSD writes.
 fn user_writes() -> Vec<Row> {
-    let both = [write_eight(0x2ff0), write_four(0x2ff4)];
+    let eight = [12, 5, 0x2fe8, 0x8877_6655_4433_2211];
+    let four = [11, 5, 0x2ff4, 0xddcc_bbaa_ffee_0099];
+    let case = bare(0, &[eight, four]).holding::<8>(0x2ff0, 0x1122_3344_5566_7788);
     vec![
-        Row::completes("R9, the first", bare(0, &both[..1]))
-            .bytes::<8>(0x2ff0, 0x8877_6655_4433_2211),
-        Row::completes("R9, both", bare(0, &both)).bytes::<8>(0x2ff0, 0xffee_0099_4433_2211),
+        Row::completes("R9", case)
+            .bytes::<8>(0x2fe8, 0x8877_6655_4433_2211)
+            .bytes::<4>(0x2ff4, 0xffee_0099),
     ]
 }
 
@@ -139,9 +142,74 @@ fn not_written() -> Vec<Row> {
         Row::ends("R11, eight bytes", bare(0, &odd), Answer::fault(GP)),
         Row::ends(
             "R11, ordinary page",
-            bare(0, &[write_four(0x5000)]),
+            bare(0, &[[11, 5, 0x5000, 1]]),
             Answer::page_fault(0x5000),
         ),
         Row::ends("R12", bare(3, &odd).with(field::CET, 0), Answer::fault(UD)),
+    ]
+}
+
+/// R13.
+fn ends_of_memory() -> Vec<Row> {
+    let from = |sp| plain(&[RET]).with(field::SP, sp);
+    let narrow = |sp| from(sp).with(field::MODE, 1);
+    vec![
+        Row::ends(
+            "R13, into the hole",
+            from(0x0000_7fff_ffff_fffc),
+            Answer::fault(SS),
+        ),
+        Row::ends("R13, past 2^32", narrow(0xffff_fffd), Answer::fault(SS)),
+        Row::ends(
+            "R13, up to 2^32",
+            narrow(0xffff_fffc),
+            Answer::page_fault(0xffff_fffc),
+        ),
+    ]
+}
+
+/// R14.
+fn code_limits() -> Vec<Row> {
+    let below = |limit| {
+        plain(&[RET])
+            .with(field::MODE, 1)
+            .with(field::LIMIT, limit)
+            .holding::<4>(0x5010, 0x40_0005)
+            .holding::<4>(0x1ff0, 0x40_0005)
+    };
+    vec![
+        Row::completes("R14, at the limit", below(0x40_0005))
+            .field(field::IP, 0x40_0005)
+            .field(field::SP, 0x5014)
+            .field(field::SSP, 0x1ff4),
+        Row::ends("R14, above the limit", below(0x40_0004), Answer::fault(GP)),
+    ]
+}
+
+/// R15 and R16.
+fn other_levels_and_modes() -> Vec<Row> {
+    let kernel = between(0x40_0005, 0x40_0005)
+        .with(field::CPL, 0)
+        .with(field::USER, 0)
+        .with(field::SUPERVISOR, 1);
+    let write = [write_eight(0x2ff0)];
+    vec![
+        Row::ends("R15", kernel, Answer::page_fault(0x1ff0)),
+        Row::ends("R16, CPL 1", bare(1, &write), Answer::fault(GP)),
+        Row::ends(
+            "R16, mode 0",
+            bare(0, &write).with(field::MODE, 0),
+            Answer::fault(UD),
+        ),
+    ]
+}
+
+/// R17.
+fn broken_forms() -> Vec<Row> {
+    let at = |mode, instruction| bare(0, &[instruction]).with(field::MODE, mode);
+    vec![
+        Row::ends("R17, count", plain(&[dropping(0x1_0000)]), REFUSED),
+        Row::ends("R17, RET in mode 0", at(0, RET), REFUSED),
+        Row::ends("R17, WRUSSQ in mode 1", at(1, write_eight(0x2ff0)), REFUSED),
     ]
 }

@@ -31,8 +31,8 @@ fn worked_cases() {
 #[test]
 fn worked_cases_of_returns_and_user_writes() {
     let rows = worked_returns::rows();
-    check(&rows, 14);
-    name_all(&rows, 'R', 12);
+    check(&rows, 24);
+    name_all(&rows, 'R', 17);
 }
 
 #[test]
