@@ -9,15 +9,34 @@ fn size(step: &Step) -> u64 {
     4 * (step.code() - 10)
 }
 
-/// Whether this is a WRUSS of good form outside mode 0.
+/// Whether this is a WRUSS of good form.
+fn is_well_formed(step: &Step) -> bool {
+    step.is_user_write() && step.report[1] == 0
+}
+
+/// Whether this is one outside mode 0.
 fn is_met(step: &Step) -> bool {
-    step.is_user_write() && step.report[1] == 0 && step.before[field::MODE] > 0
+    is_well_formed(step) && step.before[field::MODE] > 0
+}
+
+/// Whether this is one in mode 0.
+fn is_in_mode_0(step: &Step) -> bool {
+    is_well_formed(step) && step.before[field::MODE] == 0
 }
 
 /// The page list with the two kinds of shadow stack exchanged.
 fn exchanged(pages: &[u64]) -> Vec<u64> {
     let other = |entry: &u64| match entry & 0xfff {
         1 | 2 => entry ^ 3,
+        _ => *entry,
+    };
+    pages.iter().map(other).collect()
+}
+
+/// The page list with supervisor shadow pages made into those of user code.
+fn given_away(pages: &[u64]) -> Vec<u64> {
+    let other = |entry: &u64| match entry & 0xfff {
+        2 => entry ^ 3,
         _ => *entry,
     };
     pages.iter().map(other).collect()
@@ -36,7 +55,7 @@ wrong_step!(asks_for_the_permission, |step| {
     }
 });
 
-wrong_step!(reaches_supervisor_pages, |step| {
+wrong_step!(takes_one_kind_for_the_other, |step| {
     if is_met(step) {
         let pages = exchanged(step.pages);
         let before = step.before.clone();
@@ -44,7 +63,15 @@ wrong_step!(reaches_supervisor_pages, |step| {
     }
 });
 
-wrong_step!(reaches_ordinary_pages_too, |step| {
+wrong_step!(reaches_supervisor_pages_too, |step| {
+    if is_met(step) {
+        let pages = given_away(step.pages);
+        let before = step.before.clone();
+        step.redo(&before, &pages, step.words);
+    }
+});
+
+wrong_step!(reaches_all_pages, |step| {
     if is_met(step) && !step.is_completed() {
         let pages: Vec<u64> = step.pages.iter().map(|entry| entry & !0xfff | 1).collect();
         let before = step.before.clone();
@@ -92,9 +119,18 @@ wrong_step!(forgets_the_alignment, |step| {
     }
 });
 
-wrong_step!(knows_wruss_in_real_mode, |step| {
-    if step.is_user_write() && step.report[2] == UD && step.before[field::CPL] > 0 {
+wrong_step!(tests_the_level_before_the_mode, |step| {
+    if is_in_mode_0(step) && step.before[field::CPL] > 0 {
         step.fault(GP);
+    }
+});
+
+wrong_step!(knows_wruss_in_mode_0, |step| {
+    if is_in_mode_0(step) {
+        let wide = step.before_with(field::MODE, 2);
+        step.redo(&wide, step.pages, step.words);
+        step.state[field::MODE] = 0;
+        step.state[field::IP] = step.cut(step.state[field::IP]);
     }
 });
 
@@ -116,10 +152,14 @@ pub const ALL: &[Named] = &[
         asks_for_the_permission,
     ),
     (
-        "lets WRUSS reach supervisor pages",
-        reaches_supervisor_pages,
+        "takes one kind of shadow page for the other",
+        takes_one_kind_for_the_other,
     ),
-    ("lets WRUSS reach all pages", reaches_ordinary_pages_too),
+    (
+        "lets WRUSS reach supervisor pages too",
+        reaches_supervisor_pages_too,
+    ),
+    ("lets WRUSS reach all pages", reaches_all_pages),
     (
         "tests the alignment before CR4.CET",
         tests_the_alignment_before_cet,
@@ -131,6 +171,10 @@ pub const ALL: &[Named] = &[
     ),
     ("lets user code use WRUSS", lets_user_code_write),
     ("forgets the alignment of WRUSS", forgets_the_alignment),
-    ("knows WRUSS in real mode", knows_wruss_in_real_mode),
+    (
+        "tests the level before the mode",
+        tests_the_level_before_the_mode,
+    ),
+    ("knows WRUSS in mode 0", knows_wruss_in_mode_0),
     ("writes half of eight bytes", writes_half_of_eight_bytes),
 ];
