@@ -1,4 +1,4 @@
-//! The worked cases and the edges of the rules (docs/RULES.md), given to both replays. R1 to R12
+//! The worked cases and the edges of the rules (docs/RULES.md), given to both replays. R1 to R17
 //! have a file of their own.
 
 mod worked_returns;

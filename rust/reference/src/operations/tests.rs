@@ -1,5 +1,5 @@
 //! Tests of single steps: the worked ones P1 to P13 first. Those of RET and
-//! WRUSS have files of their own, R1 to R12 among them.
+//! WRUSS have files of their own, R1 to R17 among them.
 
 mod near_return;
 mod user_write;

@@ -1,4 +1,4 @@
-//! The worked steps of near RET and WRUSS, R1 to R12.
+//! The worked steps of near RET and WRUSS, R1 to R17.
 
 use super::*;
 
@@ -93,12 +93,12 @@ fn r8_four_bytes_in_mode_1() {
 
 #[test]
 fn r9_the_kernel_writes() {
-    let mut bench = bare(0);
+    let mut bench = bare(0).word(0x2ff0, 0x1122_3344_5566_7788);
     let before = bench.fields;
-    bench.completes(12, 0x2ff0, 0x8877_6655_4433_2211);
-    assert_eq!(bench.word_at(0x2ff0), 0x8877_6655_4433_2211);
+    bench.completes(12, 0x2fe8, 0x8877_6655_4433_2211);
     bench.completes(11, 0x2ff4, 0xddcc_bbaa_ffee_0099);
-    assert_eq!(bench.word_at(0x2ff0), 0xffee_0099_4433_2211);
+    assert_eq!(bench.word_at(0x2fe8), 0x8877_6655_4433_2211);
+    assert_eq!(bench.word_at(0x2ff0), 0xffee_0099_5566_7788);
     bench.is(before, &[(IP, 0x40_000a)]);
 }
 
@@ -112,4 +112,59 @@ fn r10_to_r12_nothing_is_written() {
     );
     let mut off = bare(3).with(CET, 0);
     assert_eq!(off.fault(12, 0x2ff4, 1), Fault::CetIsOff);
+}
+
+#[test]
+fn r13_pops_at_the_ends_of_memory() {
+    let mut bench = start().with(SP, HOLE - 4);
+    assert_eq!(faulty_return(&mut bench), Fault::PopNotCanonical);
+    let mut bench = start().with(MODE, 1).with(SP, 0xffff_fffd);
+    assert_eq!(faulty_return(&mut bench), Fault::PopPastEnd);
+    let mut bench = bench.with(SP, 0xffff_fffc);
+    assert_eq!(
+        faulty_return(&mut bench),
+        Fault::Page(Part::OrdinaryPop, 0xffff_fffc)
+    );
+}
+
+#[test]
+fn r14_the_code_limit_in_mode_1() {
+    let mut bench = start()
+        .with(MODE, 1)
+        .with(LIMIT, 0x40_0004)
+        .word(0x5010, 0x40_0005)
+        .word(0x1ff0, 0x40_0005);
+    assert_eq!(faulty_return(&mut bench), Fault::TargetAboveLimit);
+    let mut bench = bench.with(LIMIT, 0x40_0005);
+    let before = bench.fields;
+    bench.step(9, 1, 0, 0);
+    bench.is(before, &[(IP, 0x40_0005), (SP, 0x5014), (SSP, 0x1ff4)]);
+}
+
+#[test]
+fn r15_the_kernel_on_a_shadow_stack_of_user_code() {
+    let mut bench = bare(0)
+        .with(S_CET, 1)
+        .word(0x5010, 0x40_0005)
+        .word(0x1ff0, 0x40_0005);
+    assert_eq!(
+        faulty_return(&mut bench),
+        Fault::Page(Part::ShadowPop, 0x1ff0)
+    );
+}
+
+#[test]
+fn r16_another_level_and_mode_0() {
+    assert_eq!(bare(1).fault(12, 0x2ff0, 1), Fault::LevelAboveZero);
+    let mut real = bare(0).with(MODE, 0);
+    assert_eq!(real.fault(12, 0x2ff0, 1), Fault::RealMode);
+}
+
+#[test]
+fn r17_what_breaks_its_form() {
+    assert_eq!(start().step(10, 3, 0x1_0000, 0), Outcome::Refused);
+    let mut real = bare(0).with(MODE, 0);
+    assert_eq!(real.step(9, 1, 0, 0), Outcome::Refused);
+    let mut narrow = bare(0).with(MODE, 1);
+    assert_eq!(narrow.step(12, 5, 0x2ff0, 1), Outcome::Refused);
 }
