@@ -30,6 +30,11 @@ fn size(mode: u64) -> u64 {
     4 * mode
 }
 
+/// The first address of a mode where no code can be.
+fn no_target(mode: u64) -> u64 {
+    if mode == 1 { LIMIT + 1 } else { HOLE }
+}
+
 /// One instruction in a mode, with a page of each kind and both stacks holding
 /// a return address.
 fn back(mode: u64, instruction: [u64; 4], target: u64) -> Case {
@@ -59,11 +64,13 @@ pub fn rows() -> Vec<Row> {
         without_shadow_stacks(),
         levels(),
         differences(),
-        order(),
-        order_in_mode_1(),
+        ordinary_stack_first(),
+        shadow_stack_second(),
+        target_last(),
         targets(),
-        ordinary_ends(),
-        ordinary_ends_in_mode_1(),
+        end_of_64_bits(),
+        beside_the_hole(),
+        end_of_32_bits(),
         ordinary_pages(),
         shadow_ends(),
         calls(),
@@ -132,10 +139,9 @@ fn without_shadow_stacks() -> Vec<Row> {
             let row = returned(format!("{name}, {what}"), case, TARGET, 4);
             rows.push(row.field(field::SSP, ssp));
         }
-        let bad = if mode == 1 { LIMIT + 1 } else { HOLE };
         rows.push(Row::ends(
             format!("{name}, bad target"),
-            off(back(mode, RET, bad)),
+            off(back(mode, RET, no_target(mode))),
             Answer::fault(GP),
         ));
         rows.push(Row::ends(
@@ -198,88 +204,91 @@ fn differences() -> Vec<Row> {
     rows
 }
 
-/// Everything is wrong; from row to row one thing less is.
-fn order() -> Vec<Row> {
-    let case = |sp, ssp, shadow| {
-        back(2, dropping(8), HOLE)
-            .with(field::SP, sp)
-            .with(field::SSP, ssp)
-            .holding::<8>(0x1ff0, shadow)
-    };
-    let ends = |name, case, answer| Row::ends(name, case, answer);
-    vec![
-        ends("SP in the hole", case(HOLE, 0x3000, 0), Answer::fault(SS)),
-        ends(
-            "no ordinary page",
-            case(0x6000, 0x3000, 0),
-            Answer::page_fault(0x6000),
-        ),
-        ends(
-            "no ordinary page, SSP in the hole",
-            case(0x6000, HOLE, 0),
-            Answer::page_fault(0x6000),
-        ),
-        ends(
-            "SSP in the hole",
-            case(0x5010, HOLE - 4, 0),
-            Answer::fault(GP),
-        ),
-        ends(
-            "no shadow page",
-            case(0x5010, 0x3000, 0),
-            Answer::page_fault(0x3000),
-        ),
-        ends(
-            "two return addresses, target in the hole",
-            case(0x5010, 0x1ff0, HOLE + 1),
-            Answer::BAD_RETURN,
-        ),
-        ends(
-            "target in the hole",
-            case(0x5010, 0x1ff0, HOLE),
-            Answer::fault(GP),
-        ),
-    ]
+/// A return to where no code can be, with these two pointers and this number
+/// for a return address on the shadow stack.
+fn astray(mode: u64, sp: u64, ssp: u64, shadow: u64) -> Case {
+    back(mode, dropping(8), no_target(mode))
+        .with(field::SP, sp)
+        .with(field::SSP, ssp)
+        .holding::<8>(0x1ff0, shadow)
 }
 
-/// The same in mode 1.
-fn order_in_mode_1() -> Vec<Row> {
-    let case = |sp, ssp, shadow| {
-        back(1, dropping(8), LIMIT + 1)
-            .with(field::SP, sp)
-            .with(field::SSP, ssp)
-            .holding::<4>(0x1ff0, shadow)
-    };
-    let bad = LIMIT + 1;
+/// Everything is wrong: the ordinary stack decides.
+fn ordinary_stack_first() -> Vec<Row> {
     vec![
         Row::ends(
+            "SP in the hole",
+            astray(2, HOLE, 0x3000, 0),
+            Answer::fault(SS),
+        ),
+        Row::ends(
+            "no ordinary page",
+            astray(2, 0x6000, 0x3000, 0),
+            Answer::page_fault(0x6000),
+        ),
+        Row::ends(
+            "no ordinary page, SSP in the hole",
+            astray(2, 0x6000, HOLE, 0),
+            Answer::page_fault(0x6000),
+        ),
+        Row::ends(
             "mode 1, past 2^32",
-            case(FOUR_GIB - 3, 0x3000, 0),
+            astray(1, FOUR_GIB - 3, 0x3000, 0),
             Answer::fault(SS),
         ),
         Row::ends(
             "mode 1, no ordinary page",
-            case(0x6000, 0x3000, 0),
+            astray(1, 0x6000, 0x3000, 0),
             Answer::page_fault(0x6000),
         ),
+    ]
+}
+
+/// Everything but the ordinary stack is wrong: the shadow stack decides.
+fn shadow_stack_second() -> Vec<Row> {
+    vec![
         Row::ends(
-            "mode 1, no shadow page",
-            case(0x5010, 0x3000, 0),
+            "SSP in the hole",
+            astray(2, 0x5010, HOLE - 4, 0),
+            Answer::fault(GP),
+        ),
+        Row::ends(
+            "no shadow page",
+            astray(2, 0x5010, 0x3000, 0),
             Answer::page_fault(0x3000),
         ),
         Row::ends(
+            "mode 1, no shadow page",
+            astray(1, 0x5010, 0x3000, 0),
+            Answer::page_fault(0x3000),
+        ),
+    ]
+}
+
+/// Both stacks can be read: they are compared, and the target comes after that.
+fn target_last() -> Vec<Row> {
+    let popped = |mode, shadow| astray(mode, 0x5010, 0x1ff0, shadow);
+    let bad = LIMIT + 1;
+    vec![
+        Row::ends(
+            "two return addresses, target in the hole",
+            popped(2, HOLE + 1),
+            Answer::BAD_RETURN,
+        ),
+        Row::ends("target in the hole", popped(2, HOLE), Answer::fault(GP)),
+        Row::ends(
             "mode 1, two return addresses, target above the limit",
-            case(0x5010, 0x1ff0, bad + 1),
+            popped(1, bad + 1),
             Answer::BAD_RETURN,
         ),
         Row::ends(
             "mode 1, target above the limit",
-            case(0x5010, 0x1ff0, bad),
+            popped(1, bad),
             Answer::fault(GP),
         ),
         returned(
             "mode 1, all is well",
-            case(0x5010, 0x1ff0, bad).with(field::LIMIT, bad),
+            popped(1, bad).with(field::LIMIT, bad),
             bad,
             8,
         ),
@@ -331,45 +340,41 @@ fn put(mut case: Case, first: u64, target: u64) -> Case {
     case
 }
 
-/// SP at the end of 64 bits and beside the hole.
-fn ordinary_ends() -> Vec<Row> {
+/// A return from an edge that completes.
+fn returned_from_edge(name: &str, pages: &[u64], instruction: [u64; 4], sp: u64) -> Row {
     let target = 0x0000_1122_3344_5566;
+    let case = at_edge(pages, instruction, sp).holding::<8>(0x1100, target);
+    // RET without a count has 0 in its place.
+    let count = instruction[2];
+    returned(name, put(case, sp, target), target, count)
+}
+
+/// SP at the end of 64 bits.
+fn end_of_64_bits() -> Vec<Row> {
     let ends = [LAST_PAGE + 3, 3];
-    let both = |instruction, sp| {
-        let case = at_edge(&ends, instruction, sp).holding::<8>(0x1100, target);
-        put(case, sp, target)
-    };
-    let one = |sp| at_edge(&ends[..1], RET, sp);
+    let both = |name, instruction, sp| returned_from_edge(name, &ends, instruction, sp);
+    vec![
+        both("at the very end", RET, u64::MAX - 7),
+        both("on both ends", RET, u64::MAX - 5),
+        both("from the last byte on", RET, u64::MAX),
+        both("count past the end", dropping(0xffff), u64::MAX - 7),
+        both("count up to the end", dropping(8), u64::MAX - 15),
+        Row::ends(
+            "one end missing",
+            at_edge(&ends[..1], RET, u64::MAX - 5),
+            Answer::page_fault(0),
+        ),
+    ]
+}
+
+/// SP below the hole, in it and above it.
+fn beside_the_hole() -> Vec<Row> {
     let beside = [HOLE - 0x1000 + 3, ABOVE_HOLE + 3];
-    let good = |instruction, sp| {
-        let case = at_edge(&beside, instruction, sp).holding::<8>(0x1100, target);
-        put(case, sp, target)
-    };
+    let outside = |name, instruction, sp| returned_from_edge(name, &beside, instruction, sp);
     let mut rows = vec![
-        returned("at the very end", both(RET, u64::MAX - 7), target, 0),
-        returned("on both ends", both(RET, u64::MAX - 5), target, 0),
-        returned("from the last byte on", both(RET, u64::MAX), target, 0),
-        returned(
-            "count past the end",
-            both(dropping(0xffff), u64::MAX - 7),
-            target,
-            0xffff,
-        ),
-        returned(
-            "count up to the end",
-            both(dropping(8), u64::MAX - 15),
-            target,
-            8,
-        ),
-        Row::ends("one end missing", one(u64::MAX - 5), Answer::page_fault(0)),
-        returned("below the hole", good(RET, HOLE - 8), target, 0),
-        returned(
-            "count into the hole",
-            good(dropping(0xffff), HOLE - 8),
-            target,
-            0xffff,
-        ),
-        returned("above the hole", good(RET, ABOVE_HOLE), target, 0),
+        outside("below the hole", RET, HOLE - 8),
+        outside("count into the hole", dropping(0xffff), HOLE - 8),
+        outside("above the hole", RET, ABOVE_HOLE),
         Row::ends(
             "no page below the hole",
             at_edge(&[], RET, HOLE - 8),
@@ -386,7 +391,7 @@ fn ordinary_ends() -> Vec<Row> {
 }
 
 /// SP at the end of 32 bits.
-fn ordinary_ends_in_mode_1() -> Vec<Row> {
+fn end_of_32_bits() -> Vec<Row> {
     let case = |instruction, sp| {
         at_edge(&[0xffff_f003, 3, FOUR_GIB + 3], instruction, sp)
             .with(field::MODE, 1)

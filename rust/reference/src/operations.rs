@@ -68,13 +68,25 @@ impl Instruction {
     /// their form, which is refusal 6.
     pub fn read(words: [u64; 4], mode: Mode) -> Option<Instruction> {
         let [code, length, a, b] = words;
-        let narrow = mode == Mode::Protected;
         if !(1..=15).contains(&length) {
             return None;
         }
-        if narrow && ![a, b].iter().all(|&word| Width::Four.holds(word)) {
+        if mode == Mode::Protected && ![a, b].iter().all(|&word| Width::Four.holds(word)) {
             return None;
         }
+        let operation = match code {
+            7..=10 => Operation::call_or_return(code, a, b, mode)?,
+            _ => Operation::on_shadow_stacks(code, a, b, mode)?,
+        };
+        Some(Instruction { length, operation })
+    }
+}
+
+impl Operation {
+    /// Reads an operation that is about shadow stacks alone. Protected mode
+    /// lacks those of eight bytes.
+    fn on_shadow_stacks(code: u64, a: u64, b: u64, mode: Mode) -> Option<Operation> {
+        let narrow = mode == Mode::Protected;
         let operation = match (code, a, b) {
             (1, 0, count) => Operation::Increment {
                 size: Size::Four,
@@ -96,14 +108,6 @@ impl Instruction {
                 at,
                 value,
             },
-            (7, displacement, 0) if mode != Mode::Real => {
-                Operation::Call(Target::Relative(signed(displacement)?))
-            }
-            (8, target, 0) if mode != Mode::Real => Operation::Call(Target::Absolute(target)),
-            (9, 0, 0) if mode != Mode::Real => Operation::Return { count: 0 },
-            (10, count, 0) if mode != Mode::Real && count < near_return::COUNTS => {
-                Operation::Return { count }
-            }
             (11, at, value) => Operation::WriteForUser {
                 size: Size::Four,
                 at,
@@ -116,7 +120,22 @@ impl Instruction {
             },
             _ => return None,
         };
-        Some(Instruction { length, operation })
+        Some(operation)
+    }
+
+    /// Reads a call or a return. Real mode has neither.
+    fn call_or_return(code: u64, a: u64, b: u64, mode: Mode) -> Option<Operation> {
+        if mode == Mode::Real {
+            return None;
+        }
+        let operation = match (code, a, b) {
+            (7, displacement, 0) => Operation::Call(Target::Relative(signed(displacement)?)),
+            (8, target, 0) => Operation::Call(Target::Absolute(target)),
+            (9, 0, 0) => Operation::Return { count: 0 },
+            (10, count, 0) if count < near_return::COUNTS => Operation::Return { count },
+            _ => return None,
+        };
+        Some(operation)
     }
 }
 

@@ -91,75 +91,136 @@ fn every_line_is_answered() {
     }
 }
 
-/// The reasons for which each operation fails, with the modes in which
-/// it does.
-fn wanted_faults() -> Vec<(&'static [u64], &'static [u64], Vec<String>)> {
-    let named = |faults: &[Fault]| faults.iter().map(|fault| format!("{fault:?}")).collect();
-    let on_page = |parts: &[Part]| parts.iter().map(|part| format!("Page({part:?})")).collect();
-    let in_hole = |parts: &[Part]| {
-        let name = |part| format!("{:?}", Fault::ShadowNotCanonical(part));
-        parts.iter().copied().map(name).collect()
-    };
-    let user_write = named(&[Fault::CetIsOff, Fault::LevelAboveZero, Fault::Misaligned]);
-    use Part::*;
+/// Codes, modes, and the names of reasons for which each of these operations
+/// fails in each of these modes.
+type Wanted = (&'static [u64], &'static [u64], Vec<String>);
+
+/// The names of some reasons.
+fn named(faults: &[Fault]) -> Vec<String> {
+    faults.iter().map(|fault| format!("{fault:?}")).collect()
+}
+
+/// The names of page faults.
+fn on_page(parts: &[Part]) -> Vec<String> {
+    parts.iter().map(|part| format!("Page({part:?})")).collect()
+}
+
+/// The names of faults at addresses that are not canonical.
+fn in_hole(parts: &[Part]) -> Vec<String> {
+    let name = |&part| format!("{:?}", Fault::ShadowNotCanonical(part));
+    parts.iter().map(name).collect()
+}
+
+/// All the reasons for which operations fail.
+fn wanted_faults() -> Vec<Wanted> {
+    [
+        no_shadow_stacks(),
+        increment_faults(),
+        restore_faults(),
+        save_previous_faults(),
+        write_faults(),
+        call_faults(),
+        return_faults(),
+        user_write_faults(),
+    ]
+    .concat()
+}
+
+/// Where there are no shadow stacks, or they are off.
+fn no_shadow_stacks() -> Vec<Wanted> {
     vec![
         (&[1, 2, 3, 4, 5, 6, 11, 12], &[0], named(&[Fault::RealMode])),
         (&[1, 3, 4, 5], &[1, 2], named(&[Fault::NotEnabled])),
         (&[2, 6], &[2], named(&[Fault::NotEnabled])),
-        (&[1], &[1, 2], on_page(&[FirstElement, LastElement])),
-        (&[2], &[2], on_page(&[FirstElement, LastElement])),
-        (&[1, 2], &[2], in_hole(&[FirstElement, LastElement])),
-        (&[3, 4, 5], &[1, 2], named(&[Fault::Misaligned])),
-        (&[6], &[2], named(&[Fault::Misaligned])),
-        (&[3, 4], &[1, 2], on_page(&[Token])),
-        (&[3, 4], &[2], in_hole(&[Token])),
-        (
-            &[3],
-            &[1, 2],
-            named(&[Fault::RestoreMark, Fault::RestorePlace]),
-        ),
+    ]
+}
+
+/// Of INCSSP.
+fn increment_faults() -> Vec<Wanted> {
+    let elements = [Part::FirstElement, Part::LastElement];
+    vec![
+        (&[1], &[1, 2], on_page(&elements)),
+        (&[2], &[2], on_page(&elements)),
+        (&[1, 2], &[2], in_hole(&elements)),
+    ]
+}
+
+/// Of RSTORSSP.
+fn restore_faults() -> Vec<Wanted> {
+    let wrong_token = named(&[Fault::RestoreMark, Fault::RestorePlace]);
+    vec![
+        (&[3], &[1, 2], named(&[Fault::Misaligned])),
+        (&[3], &[1, 2], on_page(&[Part::Token])),
+        (&[3], &[2], in_hole(&[Part::Token])),
+        (&[3], &[1, 2], wrong_token),
         (&[3], &[1], named(&[Fault::RestoreHigh])),
+    ]
+}
+
+/// Of SAVEPREVSSP.
+fn save_previous_faults() -> Vec<Wanted> {
+    let stored = [Part::Zeros, Part::NewToken];
+    vec![
+        (&[4], &[1, 2], named(&[Fault::Misaligned])),
+        (&[4], &[1, 2], on_page(&[Part::Token])),
+        (&[4], &[2], in_hole(&[Part::Token])),
         (&[4], &[1, 2], named(&[Fault::PreviousMark])),
         (&[4], &[1], named(&[Fault::GapNotZero, Fault::PreviousHigh])),
         (&[4], &[2], named(&[Fault::GapInLongMode])),
-        (&[4], &[1, 2], on_page(&[Zeros, NewToken])),
-        (&[4], &[1], on_page(&[Gap])),
-        (&[4], &[2], in_hole(&[Zeros, NewToken])),
-        (&[5], &[1, 2], named(&[Fault::WritesNotPermitted])),
-        (&[6], &[2], named(&[Fault::WritesNotPermitted])),
-        (&[5], &[1, 2], on_page(&[Value])),
-        (&[6], &[2], on_page(&[Value])),
-        (&[5, 6], &[2], in_hole(&[Value])),
-        (
-            &[7, 8],
-            &[1],
-            named(&[Fault::TargetAboveLimit, Fault::PushPastEnd]),
-        ),
-        (
-            &[7, 8],
-            &[2],
-            named(&[Fault::TargetNotCanonical, Fault::PushNotCanonical]),
-        ),
-        (&[7, 8], &[1, 2], on_page(&[OrdinaryPush, ShadowPush])),
-        (&[7, 8], &[2], in_hole(&[ShadowPush])),
-        (
-            &[9, 10],
-            &[1],
-            named(&[Fault::TargetAboveLimit, Fault::PopPastEnd]),
-        ),
-        (
-            &[9, 10],
-            &[2],
-            named(&[Fault::TargetNotCanonical, Fault::PopNotCanonical]),
-        ),
+        (&[4], &[1], on_page(&[Part::Gap])),
+        (&[4], &[1, 2], on_page(&stored)),
+        (&[4], &[2], in_hole(&stored)),
+    ]
+}
+
+/// Of WRSS.
+fn write_faults() -> Vec<Wanted> {
+    let before = named(&[Fault::WritesNotPermitted, Fault::Misaligned]);
+    vec![
+        (&[5], &[1, 2], before.clone()),
+        (&[6], &[2], before),
+        (&[5], &[1, 2], on_page(&[Part::Value])),
+        (&[6], &[2], on_page(&[Part::Value])),
+        (&[5, 6], &[2], in_hole(&[Part::Value])),
+    ]
+}
+
+/// Of CALL.
+fn call_faults() -> Vec<Wanted> {
+    let narrow = named(&[Fault::TargetAboveLimit, Fault::PushPastEnd]);
+    let long = named(&[Fault::TargetNotCanonical, Fault::PushNotCanonical]);
+    let pushes = on_page(&[Part::OrdinaryPush, Part::ShadowPush]);
+    vec![
+        (&[7, 8], &[1], narrow),
+        (&[7, 8], &[2], long),
+        (&[7, 8], &[1, 2], pushes),
+        (&[7, 8], &[2], in_hole(&[Part::ShadowPush])),
+    ]
+}
+
+/// Of RET.
+fn return_faults() -> Vec<Wanted> {
+    let narrow = named(&[Fault::TargetAboveLimit, Fault::PopPastEnd]);
+    let long = named(&[Fault::TargetNotCanonical, Fault::PopNotCanonical]);
+    let pops = on_page(&[Part::OrdinaryPop, Part::ShadowPop]);
+    vec![
+        (&[9, 10], &[1], narrow),
+        (&[9, 10], &[2], long),
         (&[9, 10], &[1, 2], named(&[Fault::ReturnsDiffer])),
-        (&[9, 10], &[1, 2], on_page(&[OrdinaryPop, ShadowPop])),
-        (&[9, 10], &[2], in_hole(&[ShadowPop])),
-        (&[11], &[1, 2], user_write.clone()),
-        (&[12], &[2], user_write),
-        (&[11], &[1, 2], on_page(&[UserValue])),
-        (&[12], &[2], on_page(&[UserValue])),
-        (&[11, 12], &[2], in_hole(&[UserValue])),
+        (&[9, 10], &[1, 2], pops),
+        (&[9, 10], &[2], in_hole(&[Part::ShadowPop])),
+    ]
+}
+
+/// Of WRUSS.
+fn user_write_faults() -> Vec<Wanted> {
+    let before = named(&[Fault::CetIsOff, Fault::LevelAboveZero, Fault::Misaligned]);
+    vec![
+        (&[11], &[1, 2], before.clone()),
+        (&[12], &[2], before),
+        (&[11], &[1, 2], on_page(&[Part::UserValue])),
+        (&[12], &[2], on_page(&[Part::UserValue])),
+        (&[11, 12], &[2], in_hole(&[Part::UserValue])),
     ]
 }
 
@@ -188,6 +249,40 @@ const WANTED_COMPLETIONS: [(&[u64], &[u64], &str); 20] = [
     (&[12], &[2], "completed, S_CET 3"),
 ];
 
+/// Makes sure that a sort of line has come up so many times.
+fn need(counts: &BTreeMap<String, u64>, sort: &str, least: u64) {
+    let count = counts.get(sort).copied().unwrap_or_default();
+    assert!(count >= least, "{sort}: {count}");
+}
+
+/// Makes sure that operations have failed for all their reasons.
+fn need_faults(counts: &BTreeMap<String, u64>) {
+    for (codes, modes, names) in wanted_faults() {
+        for (code, mode) in pairs(codes, modes) {
+            for name in &names {
+                need(counts, &format!("do {code}: mode {mode}, {name}"), 10);
+            }
+        }
+    }
+}
+
+/// Makes sure that operations have completed in all their ways, and on the
+/// levels on which they can.
+fn need_completions(counts: &BTreeMap<String, u64>) {
+    for (codes, modes, name) in WANTED_COMPLETIONS {
+        for (code, mode) in pairs(codes, modes) {
+            need(counts, &format!("do {code}: mode {mode}, {name}"), 10);
+        }
+    }
+    for (code, cpl) in pairs(&[1, 2, 3, 4, 5, 6, 7, 8, 9, 10], &[0, 1, 2, 3]) {
+        need(counts, &format!("do {code}: CPL {cpl}, completed"), 10);
+    }
+    for (code, cpl) in pairs(&[11, 12], &[1, 2, 3]) {
+        let sort = format!("do {code}: CPL {cpl}, completed");
+        assert_eq!(counts.get(&sort), None, "{sort}");
+    }
+}
+
 #[test]
 fn every_sort_of_answer_comes_up() {
     let mut counts = BTreeMap::new();
@@ -197,39 +292,18 @@ fn every_sort_of_answer_comes_up() {
     for (sort, count) in &counts {
         println!("{count:6} {sort}");
     }
-    let often = |sort: &str, least: u64| {
-        let count = counts.get(sort).copied().unwrap_or_default();
-        assert!(count >= least, "{sort}: {count}");
-    };
-    for (codes, modes, names) in wanted_faults() {
-        for (code, mode) in pairs(codes, modes) {
-            for name in &names {
-                often(&format!("do {code}: mode {mode}, {name}"), 10);
-            }
-        }
-    }
-    for (codes, modes, name) in WANTED_COMPLETIONS {
-        for (code, mode) in pairs(codes, modes) {
-            often(&format!("do {code}: mode {mode}, {name}"), 10);
-        }
-    }
-    for (code, cpl) in pairs(&[1, 2, 3, 4, 5, 6, 7, 8, 9, 10], &[0, 1, 2, 3]) {
-        often(&format!("do {code}: CPL {cpl}, completed"), 10);
-    }
-    for (code, cpl) in pairs(&[11, 12], &[1, 2, 3]) {
-        let sort = format!("do {code}: CPL {cpl}, completed");
-        assert_eq!(counts.get(&sort), None, "{sort}");
-    }
+    need_faults(&counts);
+    need_completions(&counts);
     for code in 1..=12 {
-        often(&format!("do {code}: refusal 6"), 10);
+        need(&counts, &format!("do {code}: refusal 6"), 10);
     }
     for number in 1..=5 {
-        often(&format!("do: refusal {number}"), 10);
+        need(&counts, &format!("do: refusal {number}"), 10);
     }
-    often("malformed", 100);
-    often("word: set", 1000);
-    often("word: no", 100);
-    often("state: refusal 5", 100);
+    need(&counts, "malformed", 100);
+    need(&counts, "word: set", 1000);
+    need(&counts, "word: no", 100);
+    need(&counts, "state: refusal 5", 100);
 }
 
 /// Each of some numbers with each of others.

@@ -18,7 +18,7 @@ pub fn of(step: &Step, pages: &PageList) -> Vec<String> {
         (_, Answer::Faulted(fault)) => {
             let reason = why::reason(&step.instruction, &step.before, pages);
             // A reason for another fault would explain nothing.
-            let fitting = reason.filter(|reason| reason.vector == fault.vector);
+            let fitting = reason.filter(|reason| reason.fault == fault);
             let line = fitting.map(|reason| format!("why: {}", reason.words));
             line.into_iter().collect()
         }
@@ -55,7 +55,7 @@ mod tests {
     use super::*;
     use crate::input::Run;
     use crate::steps;
-    use driftpocket::{Instruction, Kind, Size, State};
+    use driftpocket::{Fault, Instruction, Kind, Size, State, Vector};
 
     /// A run of one instruction, a return address being on both stacks.
     fn run(instruction: Instruction) -> Run {
@@ -135,6 +135,37 @@ mod tests {
         assert_eq!(account(&one), ["why: CPL is 3, and must be 0"]);
         one.state.cpl = 0;
         assert_eq!(account(&one), ["stored as user code would, from CPL 0"]);
+    }
+
+    /// Makes sure that the fault of the only step of a run is explained, and
+    /// that another with this vector, this error code or this address is not.
+    fn only_its_own(run: &Run, vector: Vector, error_code: u64, address: u64) {
+        let mut step = steps::replay(run).steps.remove(0);
+        assert_eq!(of(&step, &run.pages).len(), 1, "{}", step.answer);
+        let Answer::Faulted(own) = step.answer else {
+            panic!("{}", step.answer);
+        };
+        let others = [
+            Fault { vector, ..own },
+            Fault { error_code, ..own },
+            Fault { address, ..own },
+        ];
+        for other in others {
+            assert_ne!(other, own);
+            step.answer = Answer::Faulted(other);
+            assert!(of(&step, &run.pages).is_empty(), "{other}");
+        }
+    }
+
+    #[test]
+    fn another_fault_is_not_explained() {
+        let mut one = run(Instruction::ret(1));
+        one.pages.write(0x5008, Size::Eight, 0x41_4141).unwrap();
+        only_its_own(&one, Vector::Protection, 4, 0x5008);
+        one.state.sp = 0x6000;
+        only_its_own(&one, Vector::Stack, 1, 0x6001);
+        let write = run(Instruction::wrussq(7, 0x1fe8, 7));
+        only_its_own(&write, Vector::InvalidOpcode, 1, 0x1fe8);
     }
 
     #[test]

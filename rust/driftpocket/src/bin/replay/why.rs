@@ -4,15 +4,16 @@
 //! instruction is found that gives one.
 
 use driftpocket::trace::{self, Access};
-use driftpocket::{Instruction, Kind, PageList, State, Vector};
+use driftpocket::{Fault, Instruction, Kind, PageList, State, Vector};
+
+/// The error code of RET's #CP.
+const NEAR_RET: u64 = 1;
 
 /// What is wrong with a step of an instruction.
 #[derive(Clone, Debug, PartialEq, Eq)]
 pub struct Reason {
     /// The fault that this gives.
-    pub vector: Vector,
-    /// The address of that fault.
-    pub address: u64,
+    pub fault: Fault,
     /// What is wrong.
     pub words: String,
 }
@@ -29,13 +30,14 @@ pub fn reason(instruction: &Instruction, state: &State, pages: &PageList) -> Opt
     }
 }
 
-/// A reason for a fault that has no address.
+/// A reason for a fault that has neither error code nor address.
 fn because(vector: Vector, words: String) -> Reason {
-    Reason {
+    let fault = Fault {
         vector,
+        error_code: 0,
         address: 0,
-        words,
-    }
+    };
+    Reason { fault, words }
 }
 
 /// Whether bits 63 to 47 of an address are all equal.
@@ -166,8 +168,9 @@ impl Scene<'_> {
             Some(kind) => format!("{address:#x} is on a page of another kind, {kind}"),
             None => format!("{address:#x} is on no page"),
         };
-        let reason = span.because(Vector::Page, &words);
-        Some(Reason { address, ..reason })
+        let mut reason = span.because(Vector::Page, &words);
+        reason.fault.address = address;
+        Some(reason)
     }
 
     /// Why a RET does not go where its loaded return address says.
@@ -184,7 +187,9 @@ impl Scene<'_> {
                     place(ordinary, "ordinary"),
                     place(shadow, "shadow")
                 );
-                Some(because(Vector::ControlProtection, words))
+                let mut reason = because(Vector::ControlProtection, words);
+                reason.fault.error_code = NEAR_RET;
+                Some(reason)
             }
             _ => self.no_target(ordinary.value),
         }
@@ -283,17 +288,15 @@ mod tests {
         let (mut after, mut pages) = (*state, before);
         let list = std::slice::from_ref(instruction);
         let answer = run(&mut after, &mut pages, list).answer;
-        let (vector, address) = match answer {
-            Answer::Completed => (None, 0),
-            Answer::Faulted(fault) => (Some(fault.vector), fault.address),
+        let wanted = match answer {
+            Answer::Completed => None,
+            Answer::Faulted(fault) => Some(fault),
             // What is sent back is not explained here.
             _ => return None,
         };
-        let said = found.as_ref().map(|reason| reason.vector);
-        let told = format!("{instruction} from {state:?}: {found:?}");
-        assert_eq!(said, vector, "{told}");
+        let said = found.as_ref().map(|reason| reason.fault);
+        assert_eq!(said, wanted, "{instruction} from {state:?}: {found:?}");
         let reason = found?;
-        assert_eq!(reason.address, address, "{told}");
         let words = reason.words.split_whitespace();
         Some(words.filter(|word| !word.starts_with("0x")).collect())
     }
