@@ -42,7 +42,7 @@ pub fn relative(state: State, a: u64, length: u64) -> u64
     moved(state, state.next(length), displacement(a))
 }
 
-// Whether the target may be called.
+// Whether a call or a return may go to the target.
 pub(crate) fn in_code(state: State, target: u64) -> bool
     ensures { λ r. ⌜ r ≡ inCode state target ⌝ }
 {
@@ -53,7 +53,7 @@ pub(crate) fn in_code(state: State, target: u64) -> bool
     }
 }
 
-// How many bytes each push has.
+// How many bytes each push of a call and each pop of a return has.
 pub(crate) fn pushed(state: State) -> Size
     ensures { λ r. ⌜ r ≡ pushedOf state ⌝ }
 {
@@ -64,7 +64,7 @@ pub(crate) fn pushed(state: State) -> Size
     }
 }
 
-// Whether a push of 4 bytes would run past the end of a 32-bit stack.
+// Whether 4 bytes from here on would run past the end of a 32-bit stack.
 pub(crate) fn runs_past(state: State, first: u64) -> bool
     ensures { λ r. ⌜ r ≡ runsPast state first ⌝ }
 {
