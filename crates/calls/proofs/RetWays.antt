@@ -10,10 +10,10 @@ use Rattle.memory.specs.Pages.{Lookup}
 use Rattle.memory.specs.declared.access.Failure.{Failure}
 use Rattle.memory.specs.declared.load.Loaded.the-variants.{Value, Blocked as Unloaded}
 use Rattle.processor.specs.Answer.{ss, gp, cpNearRet}
-use Rattle.processor.specs.State.{enabled, plus, withSp, withSsp}
+use Rattle.processor.specs.State.{enabled, plus, withIp, withSp, withSsp}
 use Rattle.processor.specs.Accesses.{shadow, ordinary, blame}
 use Rattle.processor.specs.Outcomes.{completed, faulted, stepOf}
-use Rattle.processor.specs.Prog.{ended, broken, interp, operate}
+use Rattle.processor.specs.Prog.{Prog, done, _>>=_, _>>_, unless, ended, broken, interp, operate}
 use Rattle.processor.specs.declared.answer.Fault.{Fault}
 use Rattle.processor.specs.declared.state.State.{State}
 use Rattle.processor.proofs.Laws.{passed, halted, loaded, not-loaded, continues, breaks, completes, faults}
@@ -44,6 +44,10 @@ module _ (look : Lookup) (bytes : List ℕ) (s : State) (target : ℕ) where
 
 -- ---- the whole
 
+-- the last steps: the target's test, and the state that is left
+abbrev landing : ℕ → State → ℕ → ℕ → Prog State
+landing count s target ssp = unless (inCode s target) gp >> done (withIp (withSsp (withSp s (plus s (plus s (s .sp) (byteCount (pushed s))) count)) ssp) target)
+
 module _ (look : Lookup) (bytes : List ℕ) (count : ℕ) (s : State) where
   pub stack-end : runsPast s (s .sp) ≡ true → operate look (ret count s) s bytes ≡ stepOf (faulted s ss) bytes
   unfolding ret
@@ -57,30 +61,23 @@ module _ (look : Lookup) (bytes : List ℕ) (count : ℕ) (s : State) where
         faults look _ s bytes _ (passed look bytes (not (runsPast s (s .sp))) ss _ (rw inside) ∙ not-loaded look bytes (ordinary s (s .sp) (pushed s) false) _ failure e)
 
     module _ (target : ℕ) (popped : loadAt look bytes (ordinary s (s .sp) (pushed s) false) ≡ Value target) where
-      pub frame-failed : (fault : Fault) → interp look (newSsp s target) bytes ≡ broken fault → operate look (ret count s) s bytes ≡ stepOf (faulted s fault) bytes
+      -- past the ordinary pop
+      past-pop : interp look (ret count s) bytes ≡ interp look (newSsp s target >>= landing count s target) bytes
       unfolding ret
-      frame-failed fault e =
-          faults look _ s bytes fault
-          (passed look bytes (not (runsPast s (s .sp))) ss _ (rw inside)
-          ∙ loaded look bytes (ordinary s (s .sp) (pushed s) false) _ target popped
-          ∙ breaks look _ (newSsp s target) bytes fault e)
+      past-pop = passed look bytes (not (runsPast s (s .sp))) ss _ (rw inside) ∙ loaded look bytes (ordinary s (s .sp) (pushed s) false) _ target popped
+
+      pub frame-failed : (fault : Fault) → interp look (newSsp s target) bytes ≡ broken fault → operate look (ret count s) s bytes ≡ stepOf (faulted s fault) bytes
+      frame-failed fault e = faults look _ s bytes fault (past-pop ∙ breaks look _ (newSsp s target) bytes fault e)
 
       module _ (ssp : ℕ) (framed : interp look (newSsp s target) bytes ≡ ended ssp bytes) where
+        -- past the shadow pop
+        past-frame : interp look (ret count s) bytes ≡ interp look (landing count s target ssp) bytes
+        past-frame = past-pop ∙ continues look _ (newSsp s target) bytes ssp bytes framed
+
         pub outside : inCode s target ≡ false → operate look (ret count s) s bytes ≡ stepOf (faulted s gp) bytes
-        unfolding ret
-        outside e =
-            faults look _ s bytes gp
-            (passed look bytes (not (runsPast s (s .sp))) ss _ (rw inside)
-            ∙ loaded look bytes (ordinary s (s .sp) (pushed s) false) _ target popped
-            ∙ continues look _ (newSsp s target) bytes ssp bytes framed
-            ∙ halted look bytes (inCode s target) gp _ e)
+        outside e = faults look _ s bytes gp (past-frame ∙ halted look bytes (inCode s target) gp _ e)
 
         pub returned : inCode s target ≡ true
             → operate look (ret count s) s bytes ≡ stepOf (completed (withSsp (withSp s (plus s (plus s (s .sp) (byteCount (pushed s))) count)) ssp) target) bytes
-        unfolding ret interp
-        returned e =
-            completes look _ s bytes _ bytes
-            (passed look bytes (not (runsPast s (s .sp))) ss _ (rw inside)
-            ∙ loaded look bytes (ordinary s (s .sp) (pushed s) false) _ target popped
-            ∙ continues look _ (newSsp s target) bytes ssp bytes framed
-            ∙ passed look bytes (inCode s target) gp _ e)
+        unfolding interp
+        returned e = completes look _ s bytes _ bytes (past-frame ∙ passed look bytes (inCode s target) gp _ e)

@@ -9,7 +9,7 @@ use Rattle.memory.specs.Access.{byteCount}
 use Rattle.memory.specs.declared.access.Size.{Size}
 use Rattle.memory.specs.declared.access.Size.the-variants.{Four, Eight}
 use Rattle.processor.specs.Answer.{ud, ss, gp, cpNearRet, cpRstorssp}
-use Rattle.processor.specs.State.{isLong, widthOf, enabled, usable, plus, minus, next}
+use Rattle.processor.specs.State.{isLong, widthOf, enabled, usable, plus, minus, next, withIp}
 use Rattle.processor.specs.Prog.{done}
 use Rattle.processor.specs.declared.state.State.{State}
 use Rattle.shadow.specs.Incssp.{incssp}
@@ -102,6 +102,10 @@ of-8-of-4 a e = omega arith
 
 -- ---- the operations
 
+-- IP moves on, and nothing else
+only-ip : (s : State) (length : ℕ) → Kept s (s .ssp) (withIp s (next s length))
+only-ip s length = kept s _ _ _ _ (next-fits s length) (sp-fits s) (ssp-fits s) (λ h. h .aligned)
+
 pub incssp-leaves : (size : Size) (b length : ℕ) (s : State) → Leaves (Kept s (plus s (s .ssp) (byteCount size * (b % 256)))) (incssp size b length s)
 unfolding incssp Leaves
 incssp-leaves size b length s =
@@ -118,7 +122,7 @@ wrss-leaves size permitted a b length s =
     tested-leaves _ permitted ud _ (λ p.
     tested-leaves _ (eqb (a % byteCount size) 0) gp _ (λ e.
     all-leaves _ _ _ (λ x.
-    kept s _ _ _ _ (next-fits s length) (sp-fits s) (ssp-fits s) (λ h. h .aligned)))))
+    only-ip s length))))
 
 -- the new SSP is the address, which has been tested for a multiple of 8
 pub rstorssp-leaves : (a length : ℕ) (s : State) → (usable s ≡ true → Pointer s a) → Leaves (Kept s a) (rstorssp a length s)
@@ -207,4 +211,4 @@ wruss-leaves size a b length s =
     tested-leaves _ (eqb (s .cpl) 0) gp _ (λ kernel.
     tested-leaves _ (eqb (a % byteCount size) 0) gp _ (λ e.
     all-leaves _ _ _ (λ x.
-    kept s _ _ _ _ (next-fits s length) (sp-fits s) (ssp-fits s) (λ h. h .aligned)))))
+    only-ip s length))))

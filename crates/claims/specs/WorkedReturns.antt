@@ -37,6 +37,10 @@ bare cpl cet ip = stateAt 2 cpl cet 0 ip
 abbrev pub inMode : ℕ → State
 inMode mode = stateAt mode 0 1 0 0x40_0000
 
+-- mode 1 with U_CET 1 and this code limit
+abbrev pub limited : (limit ip sp ssp : ℕ) → State
+limited limit ip sp ssp = record { mode = 1; cpl = 3; cet = 1; ucet = 1; scet = 0; ip = ip; sp = sp; ssp = ssp; flags = 0; limit = limit }
+
 -- refusal 6, and nothing changes
 abbrev pub refuses : State → List ℕ → Row
 refuses state words =
@@ -115,9 +119,6 @@ abbrev pub r13End : Row
 r13End = faults (stateOf 1 1 0x40_0000 0xffff_fffc 0x1ff0 0) [] ret (faultOf Page 0 0xffff_fffc)
 
 -- R14. In mode 1 the target may be the code limit, and not above it.
-abbrev pub limited : (limit ip sp ssp : ℕ) → State
-limited limit ip sp ssp = record { mode = 1; cpl = 3; cet = 1; ucet = 1; scet = 0; ip = ip; sp = sp; ssp = ssp; flags = 0; limit = limit }
-
 abbrev pub r14Limit : Row
 r14Limit = completes 1 (limited 0x40_0005 0x40_0000 0x5010 0x1ff0) (dword 0x5010 0x40_0005 ∷ dword 0x1ff0 0x40_0005 ∷ []) ret
     (limited 0x40_0005 0x40_0005 0x5014 0x1ff4) []

@@ -91,7 +91,7 @@ impl Instruction {
         1 <= self.length && self.length <= 15
     }
 
-    // The same of codes 9 to 12: a count has 16 bits.
+    // Whether the words of a code from 9 on fit it: 9 to 12 are known, and a count has 16 bits.
     fn words_fit_from_9(self) -> bool
         ensures { λ r. ⌜ r ≡ wordsFitFrom9 self ⌝ }
     {
