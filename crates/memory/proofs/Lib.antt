@@ -5,7 +5,9 @@ mod Cells
 mod KindTests
 mod Lookup
 mod Numbers
+mod OnePage
 mod PageLists
+mod PageParts
 mod Parts
 mod Steps
 mod Stored

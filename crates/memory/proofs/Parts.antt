@@ -21,7 +21,7 @@ pageLength place = pageStart place + pageBytes - pageStart place
 in-page : (xs : List ℕ) (place : ℕ) → pageStart place + pageBytes ≤ length xs → place % pageBytes < length (midOf (pageStart place) (pageLength place) xs)
 in-page xs place h = omega (arith, mid-len (pageStart place) (pageStart place + pageBytes) xs h)
 
-whole : (place : ℕ) → pageStart place + place % pageBytes ≡ place
+pub whole : (place : ℕ) → pageStart place + place % pageBytes ≡ place
 whole place = omega arith
 
 pub put-in : (xs : List ℕ) (place byte : ℕ) → pageStart place + pageBytes ≤ length xs

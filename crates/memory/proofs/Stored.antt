@@ -5,7 +5,7 @@ use mathlib.Core.List.{List}
 use native.Mathlib.Omega.{arith}
 use lib.ListN.{length}
 use lib.Pow.{mod-pow-add}
-use Rattle.memory.specs.Address.{modulus, wrapped, plus}
+use Rattle.memory.specs.Address.{plus}
 use Rattle.memory.specs.Pages.{Lookup}
 use Rattle.memory.specs.Access.{kindNumber, byteCount, scan, start, listedByte, listedBytes, probe, byteIn, number, value, putByte, write, written}
 use Rattle.memory.specs.Extends.{cell, Places}
@@ -17,31 +17,10 @@ use Rattle.memory.specs.declared.access.Access.{Access}
 use Rattle.memory.specs.declared.access.Reach.the-variants.{Ready}
 use Rattle.memory.proofs.Answers.{at-most-eight}
 use Rattle.memory.proofs.Cells.{reached, cellByte, cell-byte, put-here, put-there, places-put}
+use Rattle.memory.proofs.Sums.{Wrapped, wrapped-plus, wrapped-start, one-on}
 use Rattle.memory.proofs.TwoMemories.{ready-turn, probe-ready}
 
 -- ---- the addresses of an access
-
--- an address at the width
-abbrev Wrapped : Width → ℕ → Type 0
-Wrapped w a = plus w a 0 ≡ a
-
-wrapped-plus : (w : Width) (a n : ℕ) → Wrapped w (plus w a n)
-unfolding plus
-wrapped-plus Bits32 a n = omega arith
-wrapped-plus Bits64 a n = omega arith
-
-wrapped-start : (a : Access) → Wrapped (a .width) (start a)
-unfolding wrapped plus
-wrapped-start a = go (a .width) (a .first)
-  where
-    go : (w : Width) (n : ℕ) → (n % modulus w + 0) % modulus w ≡ n % modulus w
-    go Bits32 n = omega arith
-    go Bits64 n = omega arith
-
-one-on : (w : Width) (a i : ℕ) → plus w (plus w a 1) i ≡ plus w a (suc i)
-unfolding plus
-one-on Bits32 a i = omega arith
-one-on Bits64 a i = omega arith
 
 -- the next few addresses are other ones
 not-back : (w : Width) (a i : ℕ) → Wrapped w a → i < 8 → a ≡ plus w (plus w a 1) i → ⊥
@@ -71,7 +50,7 @@ write-elsewhere look w address (suc n) v bytes places h other off =
 pub written-elsewhere : (look : Lookup) (bytes : List ℕ) → Places look (length bytes) → (a : Access) (v other : ℕ) → ((i : ℕ) → i < byteCount (a .size) → other ≡ plus (a .width) (start a) i → ⊥)
     → cell look (written look a v bytes) other ≡ cell look bytes other
 unfolding written
-written-elsewhere look bytes places a v other off = write-elsewhere look (a .width) (start a) (byteCount (a .size)) v bytes places (wrapped-start a) other off
+written-elsewhere look bytes places a v other off = write-elsewhere look (a .width) (start a) (byteCount (a .size)) v bytes places (wrapped-start (a .width) (a .first)) other off
 
 -- ---- the value that was stored
 
@@ -103,4 +82,4 @@ number-written look kind w address (suc n) v bytes places h k e =
 pub value-written : (look : Lookup) (bytes : List ℕ) → Places look (length bytes) → (a : Access) (v : ℕ) → probe look a ≡ Ready → value look (written look a v bytes) a ≡ v % 2 ^ (8 * byteCount (a .size))
 unfolding written value listedBytes
 value-written look bytes places a v e =
-    number-written look (kindNumber (a .kind)) (a .width) (start a) (byteCount (a .size)) v bytes places (wrapped-start a) (at-most-eight (a .size)) (probe-ready look a e .1)
+    number-written look (kindNumber (a .kind)) (a .width) (start a) (byteCount (a .size)) v bytes places (wrapped-start (a .width) (a .first)) (at-most-eight (a .size)) (probe-ready look a e .1)

@@ -1,5 +1,5 @@
 -- Sums that wrap. Assumes nothing.
-use Prim.Native.Nat.{ℕ, _+_, _-_, _%_, _^_, _<_, _≤_}
+use Prim.Native.Nat.{ℕ, suc, _+_, _-_, _%_, _^_, _<_, _≤_}
 use mathlib.Core.Path.{_≡_, sym, _∙_, ap}
 use native.Mathlib.Omega.{arith}
 use Rattle.memory.specs.Address.{modulus, wrapped, plus, minus}
@@ -51,3 +51,24 @@ plus-one Bits64 a n = omega arith
 pub plus-none : (w : Width) (a n : ℕ) → n ≤ 0 → plus w a n ≡ wrapped w a
 unfolding plus wrapped
 plus-none w a n none = ap (λ (k : ℕ). k % modulus w) (omega arith)
+
+-- ---- the addresses of an access
+
+-- an address at the width
+abbrev pub Wrapped : Width → ℕ → Type 0
+Wrapped w a = plus w a 0 ≡ a
+
+pub wrapped-plus : (w : Width) (a n : ℕ) → Wrapped w (plus w a n)
+unfolding plus
+wrapped-plus Bits32 a n = omega arith
+wrapped-plus Bits64 a n = omega arith
+
+pub wrapped-start : (w : Width) (n : ℕ) → Wrapped w (wrapped w n)
+unfolding wrapped plus
+wrapped-start Bits32 n = omega arith
+wrapped-start Bits64 n = omega arith
+
+pub one-on : (w : Width) (a i : ℕ) → plus w (plus w a 1) i ≡ plus w a (suc i)
+unfolding plus
+one-on Bits32 a i = omega arith
+one-on Bits64 a i = omega arith

@@ -11,3 +11,4 @@ pub mod Pages
 pub mod Access
 pub mod Extends
 pub mod Search
+pub mod OnePage

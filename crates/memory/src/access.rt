@@ -7,6 +7,7 @@ ghost use Rattle.memory.specs.Access.{kindNumber, byteCount, isReady, sc
 ghost use Rattle.memory.specs.Search.{byteTest};
 use crate::address::Width;
 use crate::address::canonical;
+use crate::one_page::Located;
 use crate::pages::Spot;
 use crate::pages::find;
 
@@ -150,8 +151,8 @@ impl Access {
         }
     }
 
-    // Whether the access can be done, where `lent` bytes are lent for these pages.
-    pub fn probe(self, pages: &[u64], lent: usize) -> Reach
+    // Tries every byte by itself, as an access that lies on two pages must be.
+    pub(crate) fn try_each(self, pages: &[u64], lent: usize) -> Reach
         ensures { λ r. ⌜ r ≡ probeOf (spot (now (pages .entry)) lent) self ⌝ }
     {
         let shape = self.canonical_bytes();
@@ -163,5 +164,15 @@ impl Access {
         let size = self.size;
         let asked = Asked::OnKind(kind.number());
         test_bytes(pages, lent, asked, width, self.first, size.bytes())
+    }
+    // Whether the access can be done, where `lent` bytes are lent for these pages.
+    pub fn probe(self, pages: &[u64], lent: usize) -> Reach
+        ensures { λ r. ⌜ r ≡ probeOf (spot (now (pages .entry)) lent) self ⌝ }
+    {
+        match self.locate(pages, lent) {
+            Located::Within(_) => Reach::Ready,
+            Located::Across => Reach::Ready,
+            Located::Blocked(failure) => Reach::Blocked(failure),
+        }
     }
 }

@@ -5,6 +5,7 @@
 mod access;
 mod address;
 mod load;
+mod one_page;
 mod pages;
 mod store;
 

@@ -7,8 +7,9 @@ ghost use Rattle.memory.specs.Pages.{spot};
 ghost use Rattle.memory.specs.Access.{byteIn, number as numberOf, load as loadOf};
 use crate::access::Access;
 use crate::access::Failure;
-use crate::access::Reach;
 use crate::address::Width;
+use crate::one_page::Located;
+use crate::one_page::load_within;
 use crate::pages::Spot;
 use crate::pages::find;
 
@@ -54,13 +55,14 @@ impl Access {
     pub fn load(self, pages: &[u64], bytes: &[u8]) -> Loaded
         ensures { λ r. ⌜ r ≡ loadOf (spot (now (pages .entry)) (length (now (bytes .entry)))) (now (bytes .entry)) self ⌝ }
     {
-        match self.probe(pages, bytes.len()) {
-            Reach::Blocked(failure) => Loaded::Blocked(failure),
-            Reach::Ready => {
+        let size = self.size;
+        match self.locate(pages, bytes.len()) {
+            Located::Within(place) => Loaded::Value(load_within(bytes, place, size)),
+            Located::Across => {
                 let width = self.width;
-                let size = self.size;
                 Loaded::Value(number(pages, bytes, width, self.first, size.bytes()))
             }
+            Located::Blocked(failure) => Loaded::Blocked(failure),
         }
     }
 }

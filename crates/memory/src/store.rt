@@ -7,6 +7,8 @@ ghost use Rattle.memory.specs.Access.{putByte, write as writeOf, probe a
 use crate::access::Access;
 use crate::access::Reach;
 use crate::address::Width;
+use crate::one_page::Located;
+use crate::one_page::store_within;
 use crate::pages::PAGE_BYTES;
 use crate::pages::Spot;
 use crate::pages::find;
@@ -56,12 +58,18 @@ impl Access {
         ensures { λ r. ⌜ r ≡ probeOf (spot (now (pages .entry)) (length (now (bytes .entry)))) self ⌝ }
         ensures { λ _. ⌜ now (bytes .exit) ≡ storeOf (spot (now (pages .entry)) (length (now (bytes .entry)))) self value (now (bytes .entry)) ⌝ }
     {
-        let reach = self.probe(pages, bytes.len());
-        if reach.is_ready() {
-            let width = self.width;
-            let size = self.size;
-            write(pages, bytes, width, self.first, size.bytes(), value);
+        let size = self.size;
+        match self.locate(pages, bytes.len()) {
+            Located::Within(place) => {
+                store_within(bytes, place, size, value);
+                Reach::Ready
+            }
+            Located::Across => {
+                let width = self.width;
+                write(pages, bytes, width, self.first, size.bytes(), value);
+                Reach::Ready
+            }
+            Located::Blocked(failure) => Reach::Blocked(failure),
         }
-        reach
     }
 }

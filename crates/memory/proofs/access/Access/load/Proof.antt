@@ -1,16 +1,20 @@
--- `Access::load` meets its contract: what trying finds decides, and where that is `Ready` the number is the value. Assumes nothing.
-use mathlib.Core.Path.{sym, _∙_}
-use borrow.Author.Needs.{needs}
+-- `Access::load` meets its contract: from one page, from two, or not at all. Assumes nothing.
 use Rattle.memory.specs.Access.{load, value}
-use Rattle.memory.proofs.Answers.{at-most-eight}
+use mathlib.Core.Path.{sym, _∙_}
+use Rattle.memory.proofs.Answers.{at-most-eight, load-failed}
+use Rattle.memory.proofs.OnePage.{told, on-lent-page, load-placed}
+use borrow.Author.Needs.{needs}
 use Rattle.memory.proofs.access.Access.load.Statement.{statement}
 use Rattle.memory.proofs.access.Access.load.Tie as tie
 
-probe-requires : tie.Need-probe-requires
-probe-requires c κs = search needs
+locate-requires : tie.Need-locate-requires
+locate-requires c κs = search needs
 
-enum-known-failure : tie.Need-enum-known-failure
-enum-known-failure c = search needs
+enum-known-place : tie.Need-enum-known-place
+enum-known-place c = search needs
+
+load-within-requires : tie.Need-load-within-requires
+load-within-requires c κs = on-lent-page _ _ _ _ (told _ _ _ (sym (c .before .place .given .1) ∙ c .before .before .before .locate .ensures))
 
 enum-told : tie.Need-enum-told
 enum-told c = search needs
@@ -21,22 +25,30 @@ bytes-requires c κs = search needs
 number-requires : tie.Need-number-requires
 number-requires c κs = rw (c .bytes .ensures) (at-most-eight (c .before .before .before .before .before .before .args .self .size))
 
+enum-known-failure : tie.Need-enum-known-failure
+enum-known-failure c = search needs
+
 returns : tie.Need-returns
-unfolding load
-returns c = rw (sym (c .before .before .before .probe .ensures) ∙ c .before .failure .given .1)
+returns c = rw (load-placed _ _ _ _ (told _ _ _ (sym (c .before .before .place .given .1) ∙ c .before .before .before .before .locate .ensures)) _, c .load-within .ensures)
 
 returns-2 : tie.Need-returns-2
 unfolding load value
-returns-2 c = rw (sym (c .before .before .before .before .probe .ensures) ∙ c .before .before .enum-told .given .1, c .number .ensures, c .before .bytes .ensures)
+returns-2 c = rw (told _ _ _ (sym (c .before .before .enum-told .given .1) ∙ c .before .before .before .before .locate .ensures), c .number .ensures, c .before .bytes .ensures)
+
+returns-3 : tie.Need-returns-3
+returns-3 c = sym (load-failed _ _ _ _ (told _ _ _ (sym (c .before .failure .given .1) ∙ c .before .before .before .locate .ensures)))
 
 pub load-spec : {M : Type 1} → statement M
 load-spec =
     tie.close
     (tie.spec
-    probe-requires
-    enum-known-failure
+    locate-requires
+    enum-known-place
+    load-within-requires
     enum-told
     bytes-requires
     number-requires
+    enum-known-failure
     returns
-    returns-2)
+    returns-2
+    returns-3)

@@ -1,45 +1,32 @@
--- `Access::probe` meets its contract: a byte that is not canonical decides first, then the pages. Assumes nothing.
-use mathlib.Core.Path.{sym, _∙_, ap}
-use mathlib.Core.Bool.{not}
+-- `Access::probe` meets its contract: where an access lies tells what trying it finds. Assumes nothing.
+use mathlib.Core.Path.{sym, _∙_}
+use Rattle.memory.proofs.OnePage.{told}
 use borrow.Author.Needs.{needs}
-use Rattle.memory.specs.Access.{probe, listedBytes}
-use Rattle.memory.proofs.Answers.{blocked-first, ready-next}
 use Rattle.memory.proofs.access.Access.probe.Statement.{statement}
 use Rattle.memory.proofs.access.Access.probe.Tie as tie
 
-canonical-bytes-requires : tie.Need-canonical-bytes-requires
-canonical-bytes-requires c κs = search needs
+locate-requires : tie.Need-locate-requires
+locate-requires c κs = search needs
 
-is-ready-requires : tie.Need-is-ready-requires
-is-ready-requires c κs = search needs
+enum-told : tie.Need-enum-told
+enum-told c = search needs
+
+enum-told-2 : tie.Need-enum-told-2
+enum-told-2 c = search needs
+
+enum-known-failure : tie.Need-enum-known-failure
+enum-known-failure c = search needs
 
 returns : tie.Need-returns
-unfolding probe
-returns c = rw (← c .before .before .canonical-bytes .ensures) (sym (blocked-first _ _ (ap not (sym (c .before .is-ready .ensures)) ∙ c .if1 .taken)))
-
-number-requires : tie.Need-number-requires
-number-requires c κs = search needs
-
-bytes-requires : tie.Need-bytes-requires
-bytes-requires c κs = search needs
-
-test-bytes-requires : tie.Need-test-bytes-requires
-test-bytes-requires c κs = search needs
+returns c = sym (told _ _ _ (sym (c .enum-told .given .1) ∙ c .before .before .locate .ensures) .ready)
 
 returns-2 : tie.Need-returns-2
-unfolding probe listedBytes
-returns-2 c =
-    rw (← c .before .before .before .before .before .canonical-bytes .ensures, ready-next _ _ (ap not (sym (c .before .before .before .before .is-ready .ensures)) ∙ c .before .before .before .if1 .left), ← c .before .before .number .ensures, ← c .before .bytes .ensures)
-    (c .test-bytes .ensures)
+returns-2 c = sym (told _ _ _ (sym (c .enum-told2 .given .1) ∙ c .before .before .locate .ensures))
+
+returns-3 : tie.Need-returns-3
+returns-3 c = sym (told _ _ _ (sym (c .before .failure .given .1) ∙ c .before .before .before .locate .ensures))
 
 pub probe-spec : {M : Type 1} → statement M
 probe-spec =
     tie.close
-    (tie.spec
-    canonical-bytes-requires
-    is-ready-requires
-    returns
-    number-requires
-    bytes-requires
-    test-bytes-requires
-    returns-2)
+    (tie.spec locate-requires enum-told enum-told-2 enum-known-failure returns returns-2 returns-3)

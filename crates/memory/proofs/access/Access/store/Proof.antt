@@ -1,16 +1,23 @@
--- `Access::store` meets its contract: written where trying finds `Ready`, else left as it was. Assumes nothing.
+-- `Access::store` meets its contract: on one page, on two, or every byte left as it was. Assumes nothing.
+use Rattle.memory.specs.Access.{written}
 use mathlib.Core.Path.{sym, _∙_}
+use Rattle.memory.proofs.Answers.{store-done, store-failed}
+use Rattle.memory.proofs.OnePage.{told, on-lent-page, store-placed}
 use borrow.Author.Needs.{needs}
-use Rattle.memory.specs.Access.{store, written}
-use Rattle.memory.proofs.Answers.{stored-ready, stored-blocked}
 use Rattle.memory.proofs.access.Access.store.Statement.{statement}
 use Rattle.memory.proofs.access.Access.store.Tie as tie
 
-probe-requires : tie.Need-probe-requires
-probe-requires c κs = search needs
+locate-requires : tie.Need-locate-requires
+locate-requires c κs = search needs
 
-is-ready-requires : tie.Need-is-ready-requires
-is-ready-requires c κs = search needs
+enum-known-place : tie.Need-enum-known-place
+enum-known-place c = search needs
+
+store-within-requires : tie.Need-store-within-requires
+store-within-requires c κs = on-lent-page _ _ _ _ (told _ _ _ (sym (c .before .before .place .given .1) ∙ c .before .before .before .before .locate .ensures))
+
+enum-told : tie.Need-enum-told
+enum-told c = search needs
 
 bytes-requires : tie.Need-bytes-requires
 bytes-requires c κs = search needs
@@ -18,31 +25,38 @@ bytes-requires c κs = search needs
 write-requires : tie.Need-write-requires
 write-requires c κs = search needs
 
+enum-known-failure : tie.Need-enum-known-failure
+enum-known-failure c = search needs
+
 same-length : tie.Need-same-length
 same-length c = search needs
 
 returns : tie.Need-returns
-unfolding store written
-returns c = (
-  c .before .before .before .before .before .before .before .probe .ensures,
-  rw (← c .before .before .before .before .before .before .before .probe .ensures, stored-ready _ _ _ (sym (c .before .before .before .before .before .before .is-ready .ensures) ∙ c .before .before .before .before .before .if1 .taken), ← c .before .before .before .bytes .ensures) (c .before .before .write .ensures),
-)
+returns c = let placed = told _ _ _ (sym (c .before .before .before .before .before .place .given .1) ∙ c .before .before .before .before .before .before .before .locate .ensures) in (sym (placed .ready), c .before .before .store-within .ensures ∙ sym (store-placed _ _ _ _ placed _ _))
+
+same-length-2 : tie.Need-same-length-2
+same-length-2 c = search needs
 
 returns-2 : tie.Need-returns-2
-unfolding store
-returns-2 c = (
-  c .before .before .probe .ensures,
-  rw (← c .before .before .probe .ensures, stored-blocked (c .before .before .probe .result) _ _ (sym (c .before .is-ready .ensures) ∙ c .if1 .left)),
-)
+unfolding written
+returns-2 c = let ready = told _ _ _ (sym (c .before .before .before .before .before .enum-told .given .1) ∙ c .before .before .before .before .before .before .before .locate .ensures) in (sym ready, rw (store-done _ _ _ _ ready, ← c .before .before .before .bytes2 .ensures) (c .before .before .write .ensures))
+
+returns-3 : tie.Need-returns-3
+returns-3 c = let failed = told _ _ _ (sym (c .before .failure .given .1) ∙ c .before .before .before .locate .ensures) in (sym failed, sym (store-failed _ _ _ _ _ failed))
 
 pub store-spec : {M : Type 1} → statement M
 store-spec =
     tie.close
     (tie.spec
-    probe-requires
-    is-ready-requires
+    locate-requires
+    enum-known-place
+    store-within-requires
+    enum-told
     bytes-requires
     write-requires
+    enum-known-failure
     same-length
     returns
-    returns-2)
+    same-length-2
+    returns-2
+    returns-3)

@@ -1,0 +1,47 @@
+-- `put_on` meets its contract: four bytes, or twice four. Assumes nothing.
+use native.Mathlib.Omega.{arith}
+use Rattle.memory.proofs.PageParts.{at-least-four, length-put-at, put-eight}
+use borrow.Author.Needs.{needs}
+use Rattle.memory.proofs.one_page.put_on.Statement.{statement}
+use Rattle.memory.proofs.one_page.put_on.Tie as tie
+
+put-four-requires : tie.Need-put-four-requires
+put-four-requires c κs = omega (arith, at-least-four (c .before .before .args .size))
+
+enum-told : tie.Need-enum-told
+enum-told c = search needs
+
+enum-told-2 : tie.Need-enum-told-2
+enum-told-2 c = search needs
+
+add-put-four : tie.Need-add-put-four
+add-put-four c = search needs
+
+put-four-requires-2 : tie.Need-put-four-requires-2
+put-four-requires-2 c κs = let fits = rw (c .before .enum-told2 .given .1) at (c .before .before .before .before .before .before .before .before .pre) in rw (c .before .before .before .before .before .put-four .ensures, length-put-at _ _ _ _) (omega arith)
+
+same-length : tie.Need-same-length
+same-length c = search needs
+
+returns : tie.Need-returns
+returns c = rw (c .enum-told .given .1) (c .before .before .before .before .put-four .ensures)
+
+same-length-2 : tie.Need-same-length-2
+same-length-2 c = search needs
+
+returns-2 : tie.Need-returns-2
+returns-2 c = rw (c .before .before .before .before .enum-told2 .given .1, c .before .before .put-four2 .ensures, c .before .before .before .before .before .before .before .before .put-four .ensures) (put-eight _ _ _)
+
+pub put-on-spec : {M : Type 1} → statement M
+put-on-spec =
+    tie.close
+    (tie.spec
+    put-four-requires
+    enum-told
+    enum-told-2
+    add-put-four
+    put-four-requires-2
+    same-length
+    returns
+    same-length-2
+    returns-2)

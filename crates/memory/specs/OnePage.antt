@@ -1,0 +1,73 @@
+-- Numbers whose bytes all lie on one page (docs/RULES.md, "Reaching a byte"). The theorem `first-byte-decides` (proofs/OnePage.antt) and the contracts of private functions
+-- cite these definitions; no public contract does. Assumes nothing.
+use Prim.Native.Nat.{ℕ, zero, suc, _+_, _-_, _*_, _/_, _%_, _≤_}
+use mathlib.Core.Bool.{Bool, true, cond}
+use mathlib.Core.List.{List}
+use lib.ListN.{getD, set}
+use lib.Dec.{leb}
+use Rattle.memory.specs.Address.{canonical}
+use Rattle.memory.specs.Pages.{Lookup, pageBytes}
+use Rattle.memory.specs.Access.{kindNumber, byteCount, listedByte, start, probe}
+use Rattle.memory.specs.declared.pages.Spot.{Spot}
+use Rattle.memory.specs.declared.pages.Spot.the-variants.{Unlisted, At}
+use Rattle.memory.specs.declared.access.Access.{Access}
+use Rattle.memory.specs.declared.access.Failure.the-variants.{NotCanonical}
+use Rattle.memory.specs.declared.access.Reach.{Reach}
+use Rattle.memory.specs.declared.access.Reach.the-variants.{Ready, Blocked}
+use Rattle.memory.specs.declared.one_page.Located.{Located}
+use Rattle.memory.specs.declared.one_page.Located.the-variants.{Within, Across, Blocked as Unreached}
+
+-- ---- where the bytes lie
+
+-- n bytes, counting up from an address, all lie on its page
+unfoldable pub onePage : ℕ → ℕ → Bool
+onePage address n = leb (address % pageBytes + n) pageBytes
+
+-- i bytes further on the same page: on no page either, or on a page of the same kind and i places on
+abbrev pub further : ℕ → Spot → Spot
+further i Unlisted = Unlisted
+further i (At kind place) = At kind (place + i)
+
+-- the page that a place lies on is among the lent bytes, and n bytes from the place on lie on it
+pub record OnLentPage (lent place n : ℕ) : Type 0 where
+  pub lent-whole : place - place % pageBytes + pageBytes ≤ lent
+  pub inside : place % pageBytes + n ≤ pageBytes
+
+-- ---- trying an access
+
+abbrev pub locatedIf : Reach → Located → Located
+locatedIf Ready found = found
+locatedIf (Blocked failure) found = Unreached failure
+
+-- the place of a first byte; an access that is ready has one
+abbrev pub within : Spot → Located
+within Unlisted = Across
+within (At kind place) = Within place
+
+-- what trying an access finds, with the place of its first byte where all lie on one page
+unfoldable pub located : Lookup → Access → Located
+located look a = locatedIf (probe look a) (cond (onePage (start a) (byteCount (a .size))) (within (look (start a))) Across)
+
+-- whether an access may have a byte at an address
+abbrev pub allowed : Access → ℕ → Bool
+allowed a address = cond (a .canonical) (canonical address) true
+
+-- what trying the first byte alone finds
+unfoldable pub firstReach : Lookup → Access → Reach
+firstReach look a = cond (allowed a (start a)) (listedByte look (kindNumber (a .kind)) (start a)) (Blocked NotCanonical)
+
+-- the same, with its place
+unfoldable pub firstLocated : Lookup → Access → Located
+firstLocated look a = locatedIf (firstReach look a) (within (look (start a)))
+
+-- ---- bytes in a row, by their place
+
+-- the number that n bytes hold, low byte first
+unfoldable pub numberAt : List ℕ → ℕ → ℕ → ℕ
+numberAt bytes place zero = 0
+numberAt bytes place (suc n) = getD bytes place 0 + 256 * numberAt bytes (suc place) n
+
+-- the low n bytes of a value, low byte first
+unfoldable pub putAt : ℕ → ℕ → ℕ → List ℕ → List ℕ
+putAt place zero v bytes = bytes
+putAt place (suc n) v bytes = putAt (suc place) n (v / 256) (set bytes place (v % 256))

@@ -1,0 +1,163 @@
+// Numbers whose bytes all lie on one page: the page is looked up once, and the bytes are read and written there directly. The first
+// byte's page, kind and place decide for all of them (proofs/OnePage.antt, `first-byte-decides`).
+ghost use mathlib.Core.Path.{_≡_};
+ghost use Prim.Native.Nat.{_+_, _^_, _≤_, _<_};
+ghost use lib.ListN.{length, getD};
+ghost use Rattle.memory.specs.Pages.{spot};
+ghost use Rattle.memory.specs.Access.{byteCount, onKind};
+ghost use Rattle.memory.specs.OnePage.{onePage, allowed, locatedIf, within, located, firstLocated, OnLentPage, numberAt, putAt};
+use crate::access::Access;
+use crate::access::Failure;
+use crate::access::Reach;
+use crate::access::Size;
+use crate::address::canonical;
+use crate::pages::PAGE_BYTES;
+use crate::pages::Spot;
+use crate::pages::find;
+
+// What trying an access finds, and where it lies.
+pub(crate) enum Located {
+    // It can be done, and all its bytes lie on one page, the first at this place.
+    Within(usize),
+    // It can be done, on two pages.
+    Across,
+    Blocked(Failure),
+}
+
+// Whether n bytes, counting up from an address, all lie on its page.
+fn one_page(address: u64, n: u64) -> bool
+    ensures { λ r. ⌜ r ≡ onePage address n ⌝ }
+{
+    n <= (PAGE_BYTES as u64) - address % (PAGE_BYTES as u64)
+}
+
+// Whether a byte that leads here is on a page of the kind, with its place.
+fn on_kind(kind: u64, address: u64, spot: Spot) -> Located
+    ensures { λ r. ⌜ r ≡ locatedIf (onKind kind address spot) (within spot) ⌝ }
+{
+    match spot {
+        Spot::Unlisted => Located::Blocked(Failure::NotListed(address)),
+        Spot::At(found, place) => {
+            if found == kind {
+                Located::Within(place)
+            } else {
+                Located::Blocked(Failure::WrongKind(address))
+            }
+        }
+    }
+}
+
+impl Access {
+    // Whether the access may have a byte at this address.
+    fn allows(self, address: u64) -> bool
+        ensures { λ r. ⌜ r ≡ allowed self address ⌝ }
+    {
+        if self.canonical {
+            canonical(address)
+        } else {
+            true
+        }
+    }
+
+    // Tries the first byte alone.
+    fn locate_first(self, pages: &[u64], lent: usize) -> Located
+        ensures { λ r. ⌜ r ≡ firstLocated (spot (now (pages .entry)) lent) self ⌝ }
+    {
+        let width = self.width;
+        let kind = self.kind;
+        let first = width.wrap(self.first);
+        if !self.allows(first) {
+            return Located::Blocked(Failure::NotCanonical);
+        }
+        on_kind(kind.number(), first, find(pages, lent, first))
+    }
+
+    // Tries the access: by its first byte where all lie on one page, else byte by byte.
+    pub(crate) fn locate(self, pages: &[u64], lent: usize) -> Located
+        ensures { λ r. ⌜ r ≡ located (spot (now (pages .entry)) lent) self ⌝ }
+    {
+        let width = self.width;
+        let size = self.size;
+        if one_page(width.wrap(self.first), size.bytes()) {
+            return self.locate_first(pages, lent);
+        }
+        match self.try_each(pages, lent) {
+            Reach::Ready => Located::Across,
+            Reach::Blocked(failure) => Located::Blocked(failure),
+        }
+    }
+}
+
+// The byte at a place of a page.
+fn byte(page: &[u8], at: usize) -> u64
+    requires { ⌜ at < length (now page) ⌝ }
+    ensures { λ r. ⌜ (r ≡ getD (now (page .entry)) at 0) × (r < 256) ⌝ }
+{
+    page[at] as u64
+}
+
+// The number that 4 bytes of a page hold.
+fn four(page: &[u8], at: usize) -> u64
+    requires { ⌜ at + 4 ≤ length (now page) ⌝ }
+    ensures { λ r. ⌜ (r ≡ numberAt (now (page .entry)) at 4) × (r < 2 ^ 32) ⌝ }
+{
+    let low = byte(page, at) + 0x100 * byte(page, at + 1);
+    let high = byte(page, at + 2) + 0x100 * byte(page, at + 3);
+    low + 0x1_0000 * high
+}
+
+// The number that 4 or 8 bytes of a page hold.
+fn number_on(page: &[u8], at: usize, size: Size) -> u64
+    requires { ⌜ at + byteCount size ≤ length (now page) ⌝ }
+    ensures { λ r. ⌜ r ≡ numberAt (now (page .entry)) at (byteCount size) ⌝ }
+{
+    match size {
+        Size::Four => four(page, at),
+        Size::Eight => four(page, at) + 0x1_0000_0000 * four(page, at + 4),
+    }
+}
+
+// Writes the low 4 bytes of a value to a page.
+fn put_four(page: &mut [u8], at: usize, value: u64)
+    requires { ⌜ at + 4 ≤ length (now page) ⌝ }
+    ensures { λ _. ⌜ now (page .exit) ≡ putAt at 4 value (now (page .entry)) ⌝ }
+{
+    page[at] = (value % 256) as u8;
+    page[at + 1] = (value / 0x100 % 256) as u8;
+    page[at + 2] = (value / 0x1_0000 % 256) as u8;
+    page[at + 3] = (value / 0x100_0000 % 256) as u8;
+}
+
+// Writes the low 4 or 8 bytes of a value to a page.
+fn put_on(page: &mut [u8], at: usize, size: Size, value: u64)
+    requires { ⌜ at + byteCount size ≤ length (now page) ⌝ }
+    ensures { λ _. ⌜ now (page .exit) ≡ putAt at (byteCount size) value (now (page .entry)) ⌝ }
+{
+    put_four(page, at, value);
+    match size {
+        Size::Four => {}
+        Size::Eight => put_four(page, at + 4, value / 0x1_0000_0000),
+    }
+}
+
+// The number at a place, all on one page. Only that page is handed on.
+pub(crate) fn load_within(bytes: &[u8], place: usize, size: Size) -> u64
+    requires { ⌜ OnLentPage (length (now bytes)) place (byteCount size) ⌝ }
+    ensures { λ r. ⌜ r ≡ numberAt (now (bytes .entry)) place (byteCount size) ⌝ }
+{
+    let at = place % PAGE_BYTES;
+    let start = place - at;
+    let end = start + PAGE_BYTES;
+    number_on(&bytes[start..end], at, size)
+}
+
+// Writes the low bytes of a value at a place, all on one page. Only that page is lent on.
+pub(crate) fn store_within(bytes: &mut [u8], place: usize, size: Size, value: u64)
+    requires { ⌜ OnLentPage (length (now bytes)) place (byteCount size) ⌝ }
+    ensures { λ _. ⌜ now (bytes .exit) ≡ putAt place (byteCount size) value (now (bytes .entry)) ⌝ }
+{
+    let at = place % PAGE_BYTES;
+    let start = place - at;
+    let end = start + PAGE_BYTES;
+    put_on(&mut bytes[start..end], at, size, value);
+}
