@@ -1,7 +1,10 @@
 //! What the benchmark needs: a plain replay to measure against, and runs to measure with.
 
 #![deny(missing_docs)]
+#![deny(unsafe_code)]
 
+#[cfg(before_library)]
+mod before;
 pub mod plain;
 pub mod runs;
 
@@ -11,6 +14,15 @@ pub type Replay = fn(&mut [u64], &[u64], &mut [u8], &[u64], &mut [u64]) -> u64;
 /// Both replays under their names, the proved one first.
 pub const REPLAYS: [(&str, Replay); 2] =
     [("proved", driftpocket::run_raw), ("plain", plain::run_raw)];
+
+/// The replays that are timed: both.
+#[cfg(not(before_library))]
+pub const TIMED: [(&str, Replay); 2] = REPLAYS;
+
+/// The replays that are timed: both, and the earlier library. The tests leave that one out, as it
+/// need not know all of the present rules.
+#[cfg(before_library)]
+pub const TIMED: [(&str, Replay); 3] = [REPLAYS[0], REPLAYS[1], ("before", before::run_raw)];
 
 /// All that a replay gives back.
 #[derive(Debug, Clone, PartialEq, Eq)]

@@ -1,16 +1,17 @@
-//! Times the proved replay and the plain one on the same runs and prints a small table. Before each
-//! run state and bytes are put back, outside of the time taken. No time is asserted. Copies of one
-//! replay, built in two crates, have differed by a tenth and more, so a ratio that near to 1 tells
-//! nothing.
+//! Times the proved replay and the plain one on the same runs and prints a small table; also an
+//! earlier build of the proved library, where `build.rs` was given one. Before each run state and
+//! bytes are put back, outside of the time taken. No time is asserted. Copies of one replay, built
+//! in two crates, have differed by a tenth and more, so a ratio that near to 1 tells nothing.
 
 #![deny(missing_docs)]
+#![forbid(unsafe_code)]
 
 use std::hint::black_box;
 use std::process::ExitCode;
 use std::time::{Duration, Instant};
 
 use driftpocket_bench::runs::{INSTRUCTIONS, Run, Spread, make};
-use driftpocket_bench::{REPLAYS, Replay, outcome};
+use driftpocket_bench::{Replay, TIMED, outcome};
 
 const MEASUREMENTS: usize = 9;
 const RUNS: u64 = 16;
@@ -24,16 +25,19 @@ const INPUTS: [(&str, u64, Spread); 4] = [
     ("32-bit, repeated addresses", 1, Spread::Repeated),
 ];
 
-/// Both replays must complete every run, with the same report, state and bytes.
+/// All replays must complete every run, with the same report, state and bytes.
 fn check(name: &str, runs: &[Run]) -> Result<(), String> {
     for (number, run) in runs.iter().enumerate() {
-        let [proved, plain] = REPLAYS
+        let outcomes = TIMED
             .map(|(_, replay)| outcome(replay, &run.state, &run.pages, &run.bytes, &run.words));
-        if proved != plain {
-            return Err(format!("{name}: the replays differ on run {number}"));
+        if let Some(odd) = outcomes.iter().position(|other| *other != outcomes[0]) {
+            let ((first, _), (other, _)) = (TIMED[0], TIMED[odd]);
+            return Err(format!(
+                "{name}: {first} and {other} differ on run {number}"
+            ));
         }
-        if plain.report != [INSTRUCTIONS as u64, 0, 0, 0, 0] {
-            let report = plain.report;
+        let report = outcomes[0].report;
+        if report != [INSTRUCTIONS as u64, 0, 0, 0, 0] {
             return Err(format!("{name}: run {number} ends early: {report:?}"));
         }
     }
@@ -60,12 +64,14 @@ fn measure(replay: Replay, runs: &[Run]) -> f64 {
     spent.as_nanos() as f64 / instructions as f64
 }
 
-/// The medians of both replays, measured in turn.
-fn medians(runs: &[Run]) -> [f64; 2] {
-    let mut times = [[0.0; MEASUREMENTS]; 2];
+/// The medians of all replays, measured in turn. Each turn starts with another one, so that none
+/// always has the same place.
+fn medians(runs: &[Run]) -> [f64; TIMED.len()] {
+    let mut times = TIMED.map(|_| Vec::with_capacity(MEASUREMENTS));
     for turn in 0..MEASUREMENTS {
-        for (row, (_, replay)) in times.iter_mut().zip(REPLAYS) {
-            row[turn] = measure(replay, runs);
+        for place in 0..TIMED.len() {
+            let which = (turn + place) % TIMED.len();
+            times[which].push(measure(TIMED[which].1, runs));
         }
     }
     times.map(|mut row| {
@@ -75,7 +81,7 @@ fn medians(runs: &[Run]) -> [f64; 2] {
 }
 
 fn print_heading() {
-    let [(proved, _), (plain, _)] = REPLAYS;
+    let [(proved, _), (plain, _), earlier @ ..] = TIMED;
     println!(
         "The plain replay was built by cargo at level {OPT_LEVEL}, the proved one by `rt staticlib`."
     );
@@ -84,8 +90,33 @@ fn print_heading() {
     println!(
         "Nanoseconds per instruction, medians of {MEASUREMENTS}; state and bytes are put back"
     );
-    println!("before each run, outside of both times.\n");
-    println!("{:<28}{proved:>9}{plain:>9}{:>14}", "input", "proved/plain");
+    println!("before each run, outside of both times.");
+    if let Some((before, _)) = earlier.first() {
+        println!(
+            "An earlier library ({before}) completes the runs alike, measured in turn with both;"
+        );
+        println!("{before}/{proved} is how many times as fast the {proved} replay is now.");
+    }
+    print!(
+        "\n{:<28}{proved:>9}{plain:>9}{:>14}",
+        "input", "proved/plain"
+    );
+    if let Some((before, _)) = earlier.first() {
+        print!("{before:>9}{:>15}", "before/proved");
+    }
+    println!();
+}
+
+fn print_row(name: &str, times: [f64; TIMED.len()]) {
+    let [proved, plain, earlier @ ..] = times;
+    print!(
+        "{name:<28}{proved:>9.1}{plain:>9.1}{:>14.2}",
+        proved / plain
+    );
+    if let Some(before) = earlier.first() {
+        print!("{before:>9.1}{:>15.2}", before / proved);
+    }
+    println!();
 }
 
 fn bench() -> Result<(), String> {
@@ -101,11 +132,7 @@ fn bench() -> Result<(), String> {
     }
     print_heading();
     for (name, runs) in &inputs {
-        let [proved, plain] = medians(runs);
-        println!(
-            "{name:<28}{proved:>9.1}{plain:>9.1}{:>14.2}",
-            proved / plain
-        );
+        print_row(name, medians(runs));
     }
     Ok(())
 }
