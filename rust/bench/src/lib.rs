@@ -4,7 +4,7 @@
 #![deny(unsafe_code)]
 
 #[cfg(before_library)]
-mod before;
+mod copies;
 pub mod plain;
 pub mod runs;
 
@@ -19,10 +19,14 @@ pub const REPLAYS: [(&str, Replay); 2] =
 #[cfg(not(before_library))]
 pub const TIMED: [(&str, Replay); 2] = REPLAYS;
 
-/// The replays that are timed: both, and the earlier library. The tests leave that one out, as it
-/// need not know all of the present rules.
+/// The replays that are timed: both, and an earlier library. The tests leave that one out, as it
+/// need not know all of the present rules. The proved replay is a copy here, placed like that one.
 #[cfg(before_library)]
-pub const TIMED: [(&str, Replay); 3] = [REPLAYS[0], REPLAYS[1], ("before", before::run_raw)];
+pub const TIMED: [(&str, Replay); 3] = [
+    ("proved", copies::present),
+    REPLAYS[1],
+    ("before", copies::before),
+];
 
 /// All that a replay gives back.
 #[derive(Debug, Clone, PartialEq, Eq)]
