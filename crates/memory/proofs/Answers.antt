@@ -34,6 +34,10 @@ pub at-most-eight : (size : Size) → byteCount size ≤ 8
 at-most-eight Four = omega arith
 at-most-eight Eight = omega arith
 
+pub at-least-four : (size : Size) → 4 ≤ byteCount size
+at-least-four Four = omega arith
+at-least-four Eight = omega arith
+
 -- ---- what a load and a store give, by what trying finds
 
 module _ (look : Lookup) (bytes : List ℕ) (a : Access) where

@@ -6,27 +6,25 @@ use mathlib.Core.Bool.{Bool, true, false, cond}
 use mathlib.Core.List.{List, [], _∷_}
 use native.Mathlib.Omega.{arith}
 use lib.ListN.{set}
-use lib.Dec.{eqb, ltb}
+use lib.Dec.{ltb}
 use borrow.Author.Tests.{leb-true}
-use Rattle.memory.specs.Address.{modulus, wrapped, plus, canonical}
+use Rattle.memory.specs.Address.{plus, canonical}
 use Rattle.memory.specs.Pages.{Lookup, pageBytes, pageOf, kindOf, onPage, inPage, spotFrom, spot}
-use Rattle.memory.specs.Access.{kindNumber, byteCount, andThen, scan, canonicalByte, onKind, listedByte, start, canonicalBytes, listedBytes, probe, byteIn, number, value, load, write, written, store}
-use Rattle.memory.specs.OnePage.{onePage, further, OnLentPage, locatedIf, within, located, allowed, firstReach, firstLocated, numberAt, putAt}
+use Rattle.memory.specs.Access.{kindNumber, byteCount, andThen, scan, canonicalByte, listedByte, start, canonicalBytes, listedBytes, probe, byteIn, number, value, load, write, written, store}
+use Rattle.memory.specs.OnePage.{onePage, further, OnLentPage, locatedIf, within, located, firstReach, firstLocated, numberAt, putAt}
 use Rattle.memory.specs.declared.address.Width.{Width}
 use Rattle.memory.specs.declared.address.Width.the-variants.{Bits32, Bits64}
 use Rattle.memory.specs.declared.pages.Spot.{Spot}
 use Rattle.memory.specs.declared.pages.Spot.the-variants.{Unlisted, At}
 use Rattle.memory.specs.declared.access.Size.{Size}
-use Rattle.memory.specs.declared.access.Size.the-variants.{Four, Eight}
 use Rattle.memory.specs.declared.access.Access.{Access}
-use Rattle.memory.specs.declared.access.Failure.{Failure}
 use Rattle.memory.specs.declared.access.Failure.the-variants.{NotCanonical}
 use Rattle.memory.specs.declared.access.Reach.{Reach}
 use Rattle.memory.specs.declared.access.Reach.the-variants.{Ready, Blocked}
 use Rattle.memory.specs.declared.one_page.Located.{Located}
 use Rattle.memory.specs.declared.one_page.Located.the-variants.{Within, Across, Blocked as Unreached}
 use Rattle.memory.specs.declared.load.Loaded.the-variants.{Value}
-use Rattle.memory.proofs.Answers.{load-done, store-done}
+use Rattle.memory.proofs.Answers.{at-least-four, load-done, store-done}
 use Rattle.memory.proofs.Cells.{reached}
 use Rattle.memory.proofs.Lookup.{behind, spot-page}
 use Rattle.memory.proofs.Steps.{scan-turn}
@@ -62,7 +60,7 @@ module _ (address i : ℕ) (same : address % pageBytes + i < pageBytes) where
       go false here there = refl
 
   -- where an address leads, an address further on the same page leads as far on
-  pub spot-further : (pages : List ℕ) (lent : ℕ) → spot pages lent (address + i) ≡ further i (spot pages lent address)
+  spot-further : (pages : List ℕ) (lent : ℕ) → spot pages lent (address + i) ≡ further i (spot pages lent address)
   unfolding spot
   spot-further pages lent = from-further pages 0 lent
 
@@ -95,8 +93,7 @@ first-byte-decides pages lent a one i among = ap (spot pages lent) (address-furt
 -- ---- trying it
 
 some : (size : Size) → 0 < byteCount size
-some Four = omega arith
-some Eight = omega arith
+some size = omega (arith, at-least-four size)
 
 scan-all : (test : ℕ → Reach) (w : Width) (address n : ℕ) → Wrapped w address → ((i : ℕ) → i < n → test (plus w address i) ≡ Ready) → scan test w address n ≡ Ready
 unfolding scan
@@ -158,7 +155,7 @@ pub record Placed (look : Lookup) (a : Access) (place : ℕ) : Type 0 where
   pub led : look (start a) ≡ At kind place
 
 -- what each answer says of the access
-abbrev Told : Lookup → Access → Located → Type 0
+abbrev pub Told : Lookup → Access → Located → Type 0
 Told look a (Within place) = Placed look a place
 Told look a Across = probe look a ≡ Ready
 Told look a (Unreached failure) = probe look a ≡ Blocked failure

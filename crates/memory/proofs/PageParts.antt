@@ -8,12 +8,9 @@ use lib.ListN.{length, getD, set, take, drop, length-set}
 use lib.Seq.{getD-take, getD-drop, take-set-le, take-set-lt, drop-set-add, drop-set-lt}
 use lib.Dec.{leb}
 use borrow.Author.Tests.{leb-true, leb-false, le-leb, lt-leb}
-use borrow.Rule.Slice.PartMut.{midOf, postOf, putMid, put-same}
+use borrow.Rule.Slice.PartMut.{midOf, putMid, put-same}
 use Rattle.memory.specs.Pages.{pageBytes}
-use Rattle.memory.specs.Access.{byteCount}
 use Rattle.memory.specs.OnePage.{numberAt, putAt}
-use Rattle.memory.specs.declared.access.Size.{Size}
-use Rattle.memory.specs.declared.access.Size.the-variants.{Four, Eight}
 use Rattle.memory.proofs.Parts.{pageStart, pageLength, whole}
 
 -- what is left of a page, as the code has it
@@ -74,36 +71,36 @@ length-put-at place (suc n) v bytes = length-put-at (suc place) n (v / 256) (set
 
 -- ---- four bytes, and eight
 
+-- the next places, as the code and as the recursions have them
+second : (at : ℕ) → at + 1 ≡ suc at
+second at = omega arith
+
+third : (at : ℕ) → at + 2 ≡ suc (suc at)
+third at = omega arith
+
+fourth : (at : ℕ) → at + 3 ≡ suc (suc (suc at))
+fourth at = omega arith
+
+fifth : (at : ℕ) → at + 4 ≡ suc (suc (suc (suc at)))
+fifth at = omega arith
+
 pub four-bytes : (bytes : List ℕ) (at : ℕ) → getD bytes at 0 + 256 * getD bytes (at + 1) 0 + 65536 * (getD bytes (at + 2) 0 + 256 * getD bytes (at + 3) 0) ≡ numberAt bytes at 4
 unfolding numberAt
-four-bytes bytes at =
-    let one : at + 1 ≡ suc at = omega arith in
-    let two : at + 2 ≡ suc (suc at) = omega arith in
-    let three : at + 3 ≡ suc (suc (suc at)) = omega arith in
-    rw (one, two, three) (omega arith)
-
-pub at-least-four : (size : Size) → 4 ≤ byteCount size
-at-least-four Four = omega arith
-at-least-four Eight = omega arith
-
-four-on : (at : ℕ) → at + 4 ≡ suc (suc (suc (suc at)))
-four-on at = omega arith
+four-bytes bytes at = rw (second at, third at, fourth at) (omega arith)
 
 pub eight-bytes : (bytes : List ℕ) (at : ℕ) → numberAt bytes at 4 + 2 ^ 32 * numberAt bytes (at + 4) 4 ≡ numberAt bytes at 8
 unfolding numberAt
-eight-bytes bytes at = rw (four-on at) (omega arith)
+eight-bytes bytes at = rw (fifth at) (omega arith)
 
-pub put-eight : (at v : ℕ) (bytes : List ℕ) → putAt (at + 4) 4 (v / 2 ^ 32) (putAt at 4 v bytes) ≡ putAt at 8 v bytes
-unfolding putAt
-put-eight at v bytes = let high : v / 2 ^ 32 ≡ v / 256 / 256 / 256 / 256 = omega arith in rw (four-on at, high)
-
+-- the bytes of a value: one division after the other, or one by a power of 256
 pub put-four-bytes : (at v : ℕ) (bytes : List ℕ)
     → set (set (set (set bytes at (v % 256)) (at + 1) (v / 256 % 256)) (at + 2) (v / 65536 % 256)) (at + 3) (v / 16777216 % 256) ≡ putAt at 4 v bytes
 unfolding putAt
 put-four-bytes at v bytes =
-    let one : at + 1 ≡ suc at = omega arith in
-    let two : at + 2 ≡ suc (suc at) = omega arith in
-    let three : at + 3 ≡ suc (suc (suc at)) = omega arith in
-    let second : v / 65536 ≡ v / 256 / 256 = omega arith in
-    let third : v / 16777216 ≡ v / 256 / 256 / 256 = omega arith in
-    rw (one, two, three, second, third)
+    let two : v / 65536 ≡ v / 256 / 256 = omega arith in
+    let three : v / 16777216 ≡ v / 256 / 256 / 256 = omega arith in
+    rw (second at, third at, fourth at, two, three)
+
+pub put-eight : (at v : ℕ) (bytes : List ℕ) → putAt (at + 4) 4 (v / 2 ^ 32) (putAt at 4 v bytes) ≡ putAt at 8 v bytes
+unfolding putAt
+put-eight at v bytes = let four : v / 2 ^ 32 ≡ v / 256 / 256 / 256 / 256 = omega arith in rw (fifth at, four)

@@ -1,5 +1,6 @@
 -- What a reader of the memory's contracts must believe, to be read beside docs/RULES.md: "Pages", "Refusals" 1 to 4, "Reaching a
--- byte". In this order: Address, Pages, Access, Extends. Search serves the contracts of private loops only.
+-- byte". In this order: Address, Pages, Access, Extends. Search and OnePage serve the contracts of private functions only; the theorem
+-- `first-byte-decides` is stated by the first two definitions of OnePage.
 --
 -- How to read it. A line with `:` gives a definition's type, the lines below it say what it is, case by case. `ℕ` are the whole
 -- numbers from 0, `/` and `%` quotient and remainder. `eqb`, `ltb` test for equal and for less; `cond t a b` is a where the test t

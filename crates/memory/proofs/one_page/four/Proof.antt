@@ -1,7 +1,7 @@
 -- `four` meets its contract: four bytes, each below 256. Assumes nothing.
 use native.Mathlib.Omega.{arith}
-use Rattle.memory.proofs.PageParts.{four-bytes}
 use borrow.Author.Needs.{needs}
+use Rattle.memory.proofs.PageParts.{four-bytes}
 use Rattle.memory.proofs.one_page.four.Statement.{statement}
 use Rattle.memory.proofs.one_page.four.Tie as tie
 

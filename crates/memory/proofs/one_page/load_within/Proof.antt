@@ -1,7 +1,7 @@
 -- `load_within` meets its contract: bytes of the page that is handed on are bytes of the whole. Assumes nothing.
 use mathlib.Core.Path.{_∙_}
-use Rattle.memory.proofs.PageParts.{load-part}
 use borrow.Author.Needs.{needs}
+use Rattle.memory.proofs.PageParts.{load-part}
 use Rattle.memory.proofs.one_page.load_within.Statement.{statement}
 use Rattle.memory.proofs.one_page.load_within.Tie as tie
 

@@ -1,7 +1,7 @@
 -- `number_on` meets its contract: four bytes, or twice four. Assumes nothing.
 use native.Mathlib.Omega.{arith}
-use Rattle.memory.proofs.PageParts.{eight-bytes}
 use borrow.Author.Needs.{needs}
+use Rattle.memory.proofs.PageParts.{eight-bytes}
 use Rattle.memory.proofs.one_page.number_on.Statement.{statement}
 use Rattle.memory.proofs.one_page.number_on.Tie as tie
 

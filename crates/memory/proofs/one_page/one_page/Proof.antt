@@ -1,7 +1,7 @@
 -- `one_page` meets its contract: its difference is the sum of the definition. Assumes nothing.
+use borrow.Author.Needs.{needs}
 use Rattle.memory.specs.OnePage.{onePage}
 use Rattle.memory.proofs.PageParts.{room-left}
-use borrow.Author.Needs.{needs}
 use Rattle.memory.proofs.one_page.one_page.Statement.{statement}
 use Rattle.memory.proofs.one_page.one_page.Tie as tie
 

@@ -1,8 +1,8 @@
 -- `put_four` meets its contract: four bytes of the value, one place after the other. Assumes nothing.
-use lib.ListN.{length-set}
 use native.Mathlib.Omega.{arith}
-use Rattle.memory.proofs.PageParts.{put-four-bytes}
+use lib.ListN.{length-set}
 use borrow.Author.Needs.{needs}
+use Rattle.memory.proofs.PageParts.{put-four-bytes}
 use Rattle.memory.proofs.one_page.put_four.Statement.{statement}
 use Rattle.memory.proofs.one_page.put_four.Tie as tie
 

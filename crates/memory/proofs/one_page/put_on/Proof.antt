@@ -1,7 +1,8 @@
 -- `put_on` meets its contract: four bytes, or twice four. Assumes nothing.
 use native.Mathlib.Omega.{arith}
-use Rattle.memory.proofs.PageParts.{at-least-four, length-put-at, put-eight}
 use borrow.Author.Needs.{needs}
+use Rattle.memory.proofs.Answers.{at-least-four}
+use Rattle.memory.proofs.PageParts.{length-put-at, put-eight}
 use Rattle.memory.proofs.one_page.put_on.Statement.{statement}
 use Rattle.memory.proofs.one_page.put_on.Tie as tie
 
@@ -18,7 +19,9 @@ add-put-four : tie.Need-add-put-four
 add-put-four c = search needs
 
 put-four-requires-2 : tie.Need-put-four-requires-2
-put-four-requires-2 c κs = let fits = rw (c .before .enum-told2 .given .1) at (c .before .before .before .before .before .before .before .before .pre) in rw (c .before .before .before .before .before .put-four .ensures, length-put-at _ _ _ _) (omega arith)
+put-four-requires-2 c κs =
+    let fits = rw (c .before .enum-told2 .given .1) at (c .before .before .before .before .before .before .before .before .pre) in
+    rw (c .before .before .before .before .before .put-four .ensures, length-put-at _ _ _ _) (omega arith)
 
 same-length : tie.Need-same-length
 same-length c = search needs

@@ -1,6 +1,6 @@
 -- `store_within` meets its contract: bytes set in the page that is lent on are set in the whole. Assumes nothing.
-use Rattle.memory.proofs.PageParts.{store-part}
 use borrow.Author.Needs.{needs}
+use Rattle.memory.proofs.PageParts.{store-part}
 use Rattle.memory.proofs.one_page.store_within.Statement.{statement}
 use Rattle.memory.proofs.one_page.store_within.Tie as tie
 

@@ -1,9 +1,9 @@
 -- `Access::load` meets its contract: from one page, from two, or not at all. Assumes nothing.
-use Rattle.memory.specs.Access.{load, value}
 use mathlib.Core.Path.{sym, _∙_}
+use borrow.Author.Needs.{needs}
+use Rattle.memory.specs.Access.{load, value}
 use Rattle.memory.proofs.Answers.{at-most-eight, load-failed}
 use Rattle.memory.proofs.OnePage.{told, on-lent-page, load-placed}
-use borrow.Author.Needs.{needs}
 use Rattle.memory.proofs.access.Access.load.Statement.{statement}
 use Rattle.memory.proofs.access.Access.load.Tie as tie
 

@@ -1,9 +1,9 @@
 -- `Access::locate` meets its contract: on one page the first byte decides, else every byte is tried. Assumes nothing.
 use mathlib.Core.Path.{_≡_, sym, _∙_}
+use borrow.Author.Needs.{needs}
 use Rattle.memory.specs.Access.{byteCount, start}
 use Rattle.memory.specs.OnePage.{onePage}
 use Rattle.memory.proofs.OnePage.{first-byte-decides, first-located, each-located}
-use borrow.Author.Needs.{needs}
 use Rattle.memory.proofs.access.Access.locate.Statement.{statement}
 use Rattle.memory.proofs.access.Access.locate.Tie as tie
 

@@ -1,8 +1,8 @@
 -- `Access::locate_first` meets its contract: an address that is not canonical decides first, then the page. Assumes nothing.
 use mathlib.Core.Path.{sym, _∙_}
 use borrow.Author.Tests.{not-true, not-false}
-use Rattle.memory.specs.OnePage.{firstLocated, firstReach}
 use borrow.Author.Needs.{needs}
+use Rattle.memory.specs.OnePage.{firstLocated, firstReach}
 use Rattle.memory.proofs.access.Access.locate_first.Statement.{statement}
 use Rattle.memory.proofs.access.Access.locate_first.Tie as tie
 

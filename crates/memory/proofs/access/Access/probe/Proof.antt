@@ -1,7 +1,7 @@
 -- `Access::probe` meets its contract: where an access lies tells what trying it finds. Assumes nothing.
 use mathlib.Core.Path.{sym, _∙_}
-use Rattle.memory.proofs.OnePage.{told}
 use borrow.Author.Needs.{needs}
+use Rattle.memory.proofs.OnePage.{told}
 use Rattle.memory.proofs.access.Access.probe.Statement.{statement}
 use Rattle.memory.proofs.access.Access.probe.Tie as tie
 
