@@ -9,7 +9,8 @@
 --     length-written, length-stored                          no byte is added or lost
 -- Where addresses lead:
 --     spot-places                                            to places among the lent bytes, no two to one place
---     first-byte-decides                                     on one page the first byte's page, kind and place decide those of every byte of an access
+--     first-byte-decides                                     on one page, the first byte's page, kind and place decide those of every byte
+--     one-page-exactly                                       and that is so of every access whose bytes all lie on one page
 -- Two memories side by side, over any two lookups:
 --     ready-in-second, same-value, same-load                 an access done in the first is done in the second, with the same value
 --     store-in-both                                          a store keeps the relation
@@ -25,6 +26,6 @@ pub use Rattle.memory.proofs.Answers.{load-done, load-failed, loaded-va
 pub use Rattle.memory.proofs.Stored.{value-written, written-elsewhere}
 pub use Rattle.memory.proofs.TwoMemories.{length-written, length-stored}
 pub use Rattle.memory.proofs.Lookup.{spot-places}
-pub use Rattle.memory.proofs.OnePage.{first-byte-decides}
+pub use Rattle.memory.proofs.OnePage.{first-byte-decides, one-page-exactly}
 pub use Rattle.memory.proofs.TwoMemories.{ready-in-second, same-value, same-load, store-in-both, not-canonical, alike-probe, alike-load}
 pub use Rattle.memory.proofs.PageLists.{pages-extend, extends-pages, order-free}

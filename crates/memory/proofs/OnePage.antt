@@ -1,13 +1,13 @@
--- Bytes that all lie on one page: the first one's page, kind and place decide for all of them. From that: what trying the first byte finds is what trying all finds,
--- the number loaded is that of the bytes in a row from the first one's place on, and the bytes stored are those. Assumes nothing.
+-- Bytes that all lie on one page: the first one's page, kind and place decide those of all (`first-byte-decides`). From that: trying the first byte finds what trying all
+-- finds; what is loaded is the number of the bytes in a row from the first one's place on; and a store sets those bytes and no other. Assumes nothing.
 use Prim.Native.Nat.{ℕ, zero, suc, _+_, _-_, _*_, _/_, _%_, _^_, _<_, _≤_}
 use mathlib.Core.Path.{_≡_, refl, sym, _∙_, ap, ap₂}
 use mathlib.Core.Bool.{Bool, true, false, cond}
 use mathlib.Core.List.{List, [], _∷_}
 use native.Mathlib.Omega.{arith}
 use lib.ListN.{set}
-use lib.Dec.{ltb}
-use borrow.Author.Tests.{leb-true}
+use lib.Dec.{ltb, leb}
+use borrow.Author.Tests.{leb-true, leb-false}
 use Rattle.memory.specs.Address.{plus, canonical}
 use Rattle.memory.specs.Pages.{Lookup, pageBytes, pageOf, kindOf, onPage, inPage, spotFrom, spot}
 use Rattle.memory.specs.Access.{kindNumber, byteCount, andThen, scan, canonicalByte, listedByte, start, canonicalBytes, listedBytes, probe, byteIn, number, value, load, write, written, store}
@@ -24,7 +24,7 @@ use Rattle.memory.specs.declared.access.Reach.the-variants.{Ready, Block
 use Rattle.memory.specs.declared.one_page.Located.{Located}
 use Rattle.memory.specs.declared.one_page.Located.the-variants.{Within, Across, Blocked as Unreached}
 use Rattle.memory.specs.declared.load.Loaded.the-variants.{Value}
-use Rattle.memory.proofs.Answers.{at-least-four, load-done, store-done}
+use Rattle.memory.proofs.Answers.{at-least-four, at-most-eight, load-done, store-done}
 use Rattle.memory.proofs.Cells.{reached}
 use Rattle.memory.proofs.Lookup.{behind, spot-page}
 use Rattle.memory.proofs.Steps.{scan-turn}
@@ -87,8 +87,30 @@ module _ (a : Access) (one : onePage (start a) (byteCount (a .size)) ≡ true) (
 
 -- The first byte's page, kind and place decide those of every byte of an access that lies on one page.
 pub first-byte-decides : (pages : List ℕ) (lent : ℕ) (a : Access) → onePage (start a) (byteCount (a .size)) ≡ true → (i : ℕ) → i < byteCount (a .size)
-    → spot pages lent (plus (a .width) (start a) i) ≡ further i (spot pages lent (start a))
-first-byte-decides pages lent a one i among = ap (spot pages lent) (address-further a one i among) ∙ spot-further (start a) i (on-its-page a one i among) pages lent
+    → (pageOf (plus (a .width) (start a) i) ≡ pageOf (start a)) × (spot pages lent (plus (a .width) (start a) i) ≡ further i (spot pages lent (start a)))
+first-byte-decides pages lent a one i among =
+    let on = on-its-page a one i among in (
+      ap pageOf (address-further a one i among) ∙ same-page (start a) i on,
+      ap (spot pages lent) (address-further a one i among) ∙ spot-further (start a) i on pages lent,
+    )
+
+-- the last byte's page is another where the bytes run past the end of the page
+runs-over : (w : Width) (address n : ℕ) → Wrapped w address → 0 < n → n ≤ 8 → pageBytes < address % pageBytes + n → pageOf (plus w address (n - 1)) ≡ pageOf address → ⊥
+unfolding pageOf plus
+runs-over Bits32 address n at some most over same = omega arith
+runs-over Bits64 address n at some most over same = omega arith
+
+-- And `onePage` is no narrower than that: it holds of every access whose bytes all lie on the first one's page.
+pub one-page-exactly : (a : Access) → ((i : ℕ) → i < byteCount (a .size) → pageOf (plus (a .width) (start a) i) ≡ pageOf (start a)) → onePage (start a) (byteCount (a .size)) ≡ true
+unfolding onePage
+one-page-exactly a same = go (leb (start a % pageBytes + byteCount (a .size)) pageBytes) refl
+  where
+    go : (t : Bool) → leb (start a % pageBytes + byteCount (a .size)) pageBytes ≡ t → t ≡ true
+    go true e = refl
+    go false e =
+        let n : ℕ = byteCount (a .size) in
+        let some : 0 < n = omega (arith, at-least-four (a .size)) in
+        absurd (runs-over (a .width) (start a) n (wrapped-start (a .width) (a .first)) some (at-most-eight (a .size)) (leb-false _ _ e) (same (n - 1) (omega arith)))
 
 -- ---- trying it
 
@@ -142,7 +164,7 @@ module _ (look : Lookup) (a : Access) (one : onePage (start a) (byteCount (a .si
 
 -- ---- what `located` tells
 
--- on two pages
+-- where the bytes do not all lie on one page, no place is told
 pub each-located : (look : Lookup) (a : Access) → onePage (start a) (byteCount (a .size)) ≡ false → (r : Reach) → probe look a ≡ r → locatedIf r Across ≡ located look a
 unfolding located
 each-located look a two r e = rw (e, two)
@@ -154,7 +176,7 @@ pub record Placed (look : Lookup) (a : Access) (place : ℕ) : Type 0 where
   pub kind : ℕ
   pub led : look (start a) ≡ At kind place
 
--- what each answer says of the access
+-- what each answer says of what trying the access finds, and `Within` of where it lies
 abbrev pub Told : Lookup → Access → Located → Type 0
 Told look a (Within place) = Placed look a place
 Told look a Across = probe look a ≡ Ready
@@ -207,7 +229,7 @@ module _ (pages : List ℕ) (lent : ℕ) (a : Access) (place : ℕ) (placed : Pl
   its-row : Row (spot pages lent) (a .width) (start a) (byteCount (a .size)) (placed .kind) place
   its-row = record {
     at = wrapped-start (a .width) (a .first);
-    led = λ i h. first-byte-decides pages lent a (placed .one) i h ∙ ap (further i) (placed .led);
+    led = λ i h. first-byte-decides pages lent a (placed .one) i h .1 ∙ ap (further i) (placed .led);
   }
 
   -- the page is lent whole, and the bytes are on it

@@ -1,5 +1,5 @@
--- Numbers whose bytes all lie on one page (docs/RULES.md, "Reaching a byte"). The theorem `first-byte-decides` (proofs/OnePage.antt) and the contracts of private functions
--- cite these definitions; no public contract does. Assumes nothing.
+-- Numbers whose bytes all lie on one page, and where an access lies. Of these definitions only `onePage` and `further` say something to a reader of the promises: the
+-- theorem `first-byte-decides` (proofs/OnePage.antt) is stated by them. The others serve the contracts of private functions. Assumes nothing.
 use Prim.Native.Nat.{ℕ, zero, suc, _+_, _-_, _*_, _/_, _%_, _≤_}
 use mathlib.Core.Bool.{Bool, true, cond}
 use mathlib.Core.List.{List}
@@ -19,11 +19,11 @@ use Rattle.memory.specs.declared.one_page.Located.the-variants.{Within, 
 
 -- ---- where the bytes lie
 
--- n bytes, counting up from an address, all lie on its page
+-- n bytes, counting up from an address, all lie on its page: they end where the page ends, or before (the law `one-page-exactly`)
 unfoldable pub onePage : ℕ → ℕ → Bool
 onePage address n = leb (address % pageBytes + n) pageBytes
 
--- i bytes further on the same page: on no page either, or on a page of the same kind and i places on
+-- where a byte leads that lies i bytes further on the same page: nowhere if the first leads nowhere, else to the same kind and i places on
 abbrev pub further : ℕ → Spot → Spot
 further i Unlisted = Unlisted
 further i (At kind place) = At kind (place + i)
@@ -39,16 +39,16 @@ abbrev pub locatedIf : Reach → Located → Located
 locatedIf Ready found = found
 locatedIf (Blocked failure) found = Unreached failure
 
--- the place of a first byte; an access that is ready has one
+-- the place of the first byte of an access that is ready; such an access has one, so that the first line never shows
 abbrev pub within : Spot → Located
 within Unlisted = Across
 within (At kind place) = Within place
 
--- what trying an access finds, with the place of its first byte where all lie on one page
+-- what trying any access finds, with the place of its first byte where all lie on one page
 unfoldable pub located : Lookup → Access → Located
 located look a = locatedIf (probe look a) (cond (onePage (start a) (byteCount (a .size))) (within (look (start a))) Across)
 
--- whether an access may have a byte at an address
+-- whether an address is canonical, where the access asks for that
 abbrev pub allowed : Access → ℕ → Bool
 allowed a address = cond (a .canonical) (canonical address) true
 

@@ -151,7 +151,7 @@ impl Access {
         }
     }
 
-    // Tries every byte by itself, as an access that lies on two pages must be.
+    // Tries every byte by itself, which an access on two pages needs.
     pub(crate) fn try_each(self, pages: &[u64], lent: usize) -> Reach
         ensures { λ r. ⌜ r ≡ probeOf (spot (now (pages .entry)) lent) self ⌝ }
     {
@@ -165,6 +165,7 @@ impl Access {
         let asked = Asked::OnKind(kind.number());
         test_bytes(pages, lent, asked, width, self.first, size.bytes())
     }
+
     // Whether the access can be done, where `lent` bytes are lent for these pages.
     pub fn probe(self, pages: &[u64], lent: usize) -> Reach
         ensures { λ r. ⌜ r ≡ probeOf (spot (now (pages .entry)) lent) self ⌝ }

@@ -48,7 +48,7 @@ fn on_kind(kind: u64, address: u64, spot: Spot) -> Located
 }
 
 impl Access {
-    // Whether the access may have a byte at this address.
+    // Whether the address is canonical, where the access asks for that.
     fn allows(self, address: u64) -> bool
         ensures { λ r. ⌜ r ≡ allowed self address ⌝ }
     {

@@ -27,7 +27,7 @@ returns : tie.Need-returns
 returns c =
     let args = c .before .before .before .before .before .before .args in
     let one = tested (c .before .before) ∙ c .before .if1 .taken in
-    c .locate-first .ensures ∙ first-located _ (args .self) one (first-byte-decides (args .pages .now) (args .lent) (args .self) one)
+    c .locate-first .ensures ∙ first-located _ (args .self) one (λ i h. first-byte-decides (args .pages .now) (args .lent) (args .self) one i h .1)
 
 try-each-requires : tie.Need-try-each-requires
 try-each-requires c κs = search needs
