@@ -8,6 +8,7 @@
 //!
 //! * [`layout`]: the ends, the pages beside them, their lists and bytes.
 //! * [`trials`]: the operations, each with one access at the end.
+//! * [`places`]: every two places in a list of 16 pages.
 //!
 //! What must come of a trial is worked out here, page by page and not byte by
 //! byte: an access has a first and a last byte, and there is no page between
@@ -20,6 +21,7 @@ use driftpocket_reference::address::{ABOVE_HOLE, HOLE};
 use layout::{Edge, ORDINARY, SAFE_ORDINARY, SAFE_SHADOW, cut, lying, page_of, patterned};
 
 pub mod layout;
+pub mod places;
 pub mod trials;
 
 /// Bytes that an instruction loads or stores.
@@ -69,6 +71,11 @@ impl Touch {
     /// The address of its last byte.
     fn last(&self, mode: u64) -> u64 {
         cut(mode, self.first.wrapping_add(self.size - 1))
+    }
+
+    /// Whether it lies on two pages.
+    fn crosses(&self, mode: u64) -> bool {
+        page_of(self.first) != page_of(self.last(mode))
     }
 
     /// Whether one of its bytes has an address that no such access may have: in
@@ -202,5 +209,7 @@ pub fn around(edge: &'static Edge) -> impl Iterator<Item = Row> {
 
 /// All rows there are.
 pub fn rows() -> impl Iterator<Item = Row> {
-    layout::edges().flat_map(around)
+    let around_all = layout::edges().flat_map(around);
+    let lists_of_16 = layout::MIDDLES.iter().flat_map(places::rows);
+    around_all.chain(lists_of_16)
 }

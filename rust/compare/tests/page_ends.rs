@@ -2,8 +2,8 @@
 //! and by the library it is the same.
 
 use driftpocket_compare::answer::{PF, SS};
-use driftpocket_compare::page_ends;
 use driftpocket_compare::page_ends::layout::{HOLES, MIDDLES, TOPS};
+use driftpocket_compare::page_ends::{self, places};
 use driftpocket_compare::rows::{Row, check_each};
 use driftpocket_compare::table::{Cell, Class, Column, Source, Table};
 
@@ -28,6 +28,11 @@ fn around_the_ends_of_32_and_of_64_bits() {
 #[test]
 fn around_the_hole() {
     check(HOLES.iter().flat_map(page_ends::around), 59_696);
+}
+
+#[test]
+fn at_every_two_places_of_a_list() {
+    check(MIDDLES.iter().flat_map(places::rows), 10_576);
 }
 
 /// Whether these rows should come to a cell: completed, a page fault, or an
