@@ -9,6 +9,7 @@
 //! * [`layout`]: the ends, the pages beside them, their lists and bytes.
 //! * [`trials`]: the operations, each with one access at the end.
 //! * [`places`]: every two places in a list of 16 pages.
+//! * [`walks`]: runs of several instructions over an end.
 //!
 //! What must come of a trial is worked out here, page by page and not byte by
 //! byte: an access has a first and a last byte, and there is no page between
@@ -23,6 +24,7 @@ use layout::{Edge, ORDINARY, SAFE_ORDINARY, SAFE_SHADOW, cut, lying, page_of, pa
 pub mod layout;
 pub mod places;
 pub mod trials;
+pub mod walks;
 
 /// Bytes that an instruction loads or stores.
 #[derive(Clone, Copy, Debug)]
@@ -211,5 +213,8 @@ pub fn around(edge: &'static Edge) -> impl Iterator<Item = Row> {
 pub fn rows() -> impl Iterator<Item = Row> {
     let around_all = layout::edges().flat_map(around);
     let lists_of_16 = layout::MIDDLES.iter().flat_map(places::rows);
-    around_all.chain(lists_of_16)
+    walks::rows()
+        .into_iter()
+        .chain(around_all)
+        .chain(lists_of_16)
 }

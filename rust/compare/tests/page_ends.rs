@@ -3,7 +3,7 @@
 
 use driftpocket_compare::answer::{PF, SS};
 use driftpocket_compare::page_ends::layout::{HOLES, MIDDLES, TOPS};
-use driftpocket_compare::page_ends::{self, places};
+use driftpocket_compare::page_ends::{self, places, walks};
 use driftpocket_compare::rows::{Row, check_each};
 use driftpocket_compare::table::{Cell, Class, Column, Source, Table};
 
@@ -33,6 +33,11 @@ fn around_the_hole() {
 #[test]
 fn at_every_two_places_of_a_list() {
     check(MIDDLES.iter().flat_map(places::rows), 10_576);
+}
+
+#[test]
+fn in_runs_of_several_instructions() {
+    check(walks::rows(), 816);
 }
 
 /// Whether these rows should come to a cell: completed, a page fault, or an
