@@ -1,8 +1,9 @@
 //! A part that is wrong in one thing is noticed.
 
-use driftpocket_compare::rows::check_all;
-use driftpocket_compare::{edges, refusals, returns, rounds, tokens, user_writes};
+use driftpocket_compare::rows::{check_all, check_each};
+use driftpocket_compare::{edges, page_ends, refusals, returns, rounds, tokens, user_writes};
 use driftpocket_compare::{worked, worked_returns};
+use wrong::searches;
 
 mod wrong;
 
@@ -53,7 +54,9 @@ fn fixed_cases_notice_every_wrong_part() {
     ]
     .concat();
     for (name, part) in wrong::all() {
-        assert!(check_all(part, &rows).is_err(), "not noticed: {name}");
+        let noticed = check_each(part, rows.iter()).is_err();
+        let noticed = noticed || check_each(part, page_ends::rows()).is_err();
+        assert!(noticed, "not noticed: {name}");
     }
 }
 
@@ -133,4 +136,23 @@ fn the_ledger_and_single_steps_notice_wrong_sums_and_idling() {
         let text = rounds::ledger(wrong::named(name), 80, 0..RUNS).unwrap_err();
         assert!(text.contains(words), "{name}: {text}");
     }
+}
+
+#[test]
+fn the_ends_of_pages_alone_notice_every_wrong_search() {
+    for (name, part) in searches::ALL {
+        assert!(check_each(*part, page_ends::rows()).is_err(), "{name}");
+    }
+    for name in [
+        "leaves the ordinary push",
+        "loses the hole",
+        "names the page",
+        "sorts the pages",
+        "touches the last page",
+    ] {
+        let part = wrong::named(name);
+        assert!(check_each(part, page_ends::rows()).is_err(), "{name}");
+    }
+    let walks = page_ends::walks::rows().into_iter();
+    assert!(check_each(searches::UNSPOILED, walks).is_ok());
 }
