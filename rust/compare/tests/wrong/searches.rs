@@ -6,7 +6,8 @@
 
 use super::Named;
 use driftpocket_compare::answer::Answer;
-use driftpocket_compare::case::{FOUR_GIB, Part};
+use driftpocket_compare::case::{FOUR_GIB, Part, Seen};
+use driftpocket_compare::rows::Row;
 use driftpocket_reference::address::{Width, is_canonical};
 use driftpocket_reference::memory::{Access, Memory, Obstacle};
 use driftpocket_reference::pages::{Kind, PAGE_BYTES, Spot};
@@ -192,6 +193,31 @@ macro_rules! wrong_search {
 
 /// A search by itself.
 pub struct Search(fn(&Look) -> Found);
+
+impl Search {
+    /// Whether a row notices it if only one access of a run is searched so,
+    /// counted from 0.
+    pub fn is_noticed(&self, row: &Row, turn: u64) -> bool {
+        let Search(wrong) = self;
+        let search = |look: &Look| {
+            if look.turn == turn {
+                return wrong(look);
+            }
+            look.right()
+        };
+        let case = &row.case;
+        let mut seen = Seen::untouched(case, 0);
+        seen.returned = search_wrongly(
+            &mut seen.state,
+            &case.pages,
+            &mut seen.bytes,
+            &case.words,
+            &mut seen.report,
+            search,
+        );
+        seen != row.wanted
+    }
+}
 
 /// Goes on among the lent bytes, whether the page ends or not.
 pub const GOING_ON: Search = Search(|look| look.goes_on_if(true));
