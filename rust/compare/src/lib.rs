@@ -16,6 +16,7 @@
 //! * [`tokens`]: tokens that are just right and just wrong.
 //! * [`returns`]: near RET, and what it is given by calls.
 //! * [`user_writes`]: WRUSS, who may and which pages it reaches.
+//! * [`page_ends`]: loads and stores around the end of a page.
 //! * [`refusals`]: every refusal, and their order.
 //! * [`world`]: pages, states and tokens for a random run.
 //! * [`operands`]: instructions that suit a state, or just don't.
@@ -38,6 +39,7 @@ pub mod difference;
 pub mod edges;
 pub mod frames;
 pub mod operands;
+pub mod page_ends;
 pub mod properties;
 pub mod reasons;
 pub mod refusals;

@@ -8,6 +8,7 @@ use crate::answer::{Answer, SHORT_REPORT};
 use crate::case::{Case, PAGE, Part, REPORT_WORDS, Seen, field, foretell, observe};
 use crate::difference::explain;
 use driftpocket_reference::runs::WORDS;
+use std::borrow::Borrow;
 
 /// What every lent byte of a plain case holds.
 const BACKGROUND: u8 = 0xcc;
@@ -126,6 +127,16 @@ impl Row {
             text => Err(format!("{}: {text}", self.name)),
         }
     }
+}
+
+/// Checks rows as they come, up to the first that is wrong. How many there were
+/// comes back.
+pub fn check_each(
+    part: Part,
+    rows: impl Iterator<Item = impl Borrow<Row>>,
+) -> Result<usize, String> {
+    rows.map(|row| row.borrow().check(part))
+        .try_fold(0, |count, checked| checked.map(|()| count + 1))
 }
 
 /// Checks many rows; all that is wrong comes back in one text.

@@ -1,8 +1,12 @@
 //! A part that is wrong in one thing is noticed.
 
-use driftpocket_compare::rows::check_all;
-use driftpocket_compare::{edges, refusals, returns, rounds, tokens, user_writes};
+use driftpocket_compare::case::field;
+use driftpocket_compare::page_ends::layout::MIDDLES;
+use driftpocket_compare::rows::{Row, check_all, check_each};
+use driftpocket_compare::{edges, page_ends, refusals, returns, rounds, tokens, user_writes};
 use driftpocket_compare::{worked, worked_returns};
+use std::collections::BTreeSet;
+use wrong::searches::{self, Search};
 
 mod wrong;
 
@@ -53,7 +57,9 @@ fn fixed_cases_notice_every_wrong_part() {
     ]
     .concat();
     for (name, part) in wrong::all() {
-        assert!(check_all(part, &rows).is_err(), "not noticed: {name}");
+        let noticed = check_each(part, rows.iter()).is_err();
+        let noticed = noticed || check_each(part, page_ends::rows()).is_err();
+        assert!(noticed, "not noticed: {name}");
     }
 }
 
@@ -133,4 +139,120 @@ fn the_ledger_and_single_steps_notice_wrong_sums_and_idling() {
         let text = rounds::ledger(wrong::named(name), 80, 0..RUNS).unwrap_err();
         assert!(text.contains(words), "{name}: {text}");
     }
+}
+
+#[test]
+fn the_ends_of_pages_alone_notice_every_wrong_search() {
+    for (name, part) in searches::ALL {
+        assert!(check_each(*part, page_ends::rows()).is_err(), "{name}");
+    }
+    for name in [
+        "leaves the ordinary push",
+        "loses the hole",
+        "names the page",
+        "sorts the pages",
+        "touches the last page",
+    ] {
+        let part = wrong::named(name);
+        assert!(check_each(part, page_ends::rows()).is_err(), "{name}");
+    }
+    let walks = page_ends::walks::rows().into_iter();
+    assert!(check_each(searches::UNSPOILED, walks).is_ok());
+}
+
+/// An access of an operation.
+#[derive(Clone, Copy, Debug, PartialEq, Eq, PartialOrd, Ord)]
+struct Spot {
+    mode: u64,
+    cpl: u64,
+    code: u64,
+    /// Whether SAVEPREVSSP finds the carry flag set.
+    carry: bool,
+    /// How many accesses the operation makes before this one.
+    turn: u64,
+}
+
+/// The operations: mode, code, carry flag, and how many accesses.
+const OPERATIONS: [(u64, u64, bool, u64); 23] = [
+    (1, 1, false, 2),
+    (1, 3, false, 2),
+    (1, 4, false, 3),
+    (1, 4, true, 4),
+    (1, 5, false, 1),
+    (1, 7, false, 2),
+    (1, 8, false, 2),
+    (1, 9, false, 2),
+    (1, 10, false, 2),
+    (1, 11, false, 1),
+    (2, 1, false, 2),
+    (2, 2, false, 2),
+    (2, 3, false, 2),
+    (2, 4, false, 3),
+    (2, 4, true, 1),
+    (2, 5, false, 1),
+    (2, 6, false, 1),
+    (2, 7, false, 2),
+    (2, 8, false, 2),
+    (2, 9, false, 2),
+    (2, 10, false, 2),
+    (2, 11, false, 1),
+    (2, 12, false, 1),
+];
+
+impl Spot {
+    /// All of them. WRUSS makes its access at CPL 0 alone.
+    fn all() -> BTreeSet<Spot> {
+        let mut all = BTreeSet::new();
+        for (mode, code, carry, count) in OPERATIONS {
+            let levels: &[u64] = if code > 10 { &[0] } else { &[0, 3] };
+            for &cpl in levels {
+                all.extend((0..count).map(|turn| Spot {
+                    mode,
+                    cpl,
+                    code,
+                    carry,
+                    turn,
+                }));
+            }
+        }
+        all
+    }
+
+    /// Whether a row is about its operation.
+    fn is_of(&self, row: &Row) -> bool {
+        let state = &row.case.state;
+        let carry = state[field::FLAGS] % 2 == 1;
+        let of = (state[field::MODE], state[field::CPL], row.case.words[0]);
+        (self.mode, self.cpl, self.code) == of && self.carry == carry
+    }
+}
+
+/// Makes one access after the other by a wrong search. Rows must notice it in
+/// all but those where nobody can.
+fn watch(search: &Search, name: &str, is_hidden: impl Fn(&Spot) -> bool) {
+    let mut unnoticed = Spot::all();
+    for row in MIDDLES.iter().flat_map(page_ends::around) {
+        unnoticed.retain(|spot| !spot.is_of(&row) || !search.is_noticed(&row, spot.turn));
+    }
+    let hidden: BTreeSet<Spot> = Spot::all().into_iter().filter(is_hidden).collect();
+    assert_eq!(unnoticed, hidden, "{name}");
+}
+
+#[test]
+fn every_access_of_every_operation_is_watched() {
+    // Only ordinary stacks, and 8 bytes on a shadow stack that is a multiple of
+    // 4, can lie on two pages.
+    watch(&searches::GOING_ON, "going on", |spot| {
+        let ordinary = matches!((spot.code, spot.turn), (7..=10, 0));
+        let shadow = matches!((spot.mode, spot.code), (2, 2 | 7..=10));
+        !ordinary && !shadow
+    });
+    // What INCSSP loads is not looked at, nor a token if the carry flag is bad.
+    watch(&searches::MISSING_A_BYTE, "missing a byte", |spot| {
+        matches!(spot.code, 1 | 2) || (spot.mode, spot.carry) == (2, true)
+    });
+    // RSTORSSP stores where it has loaded.
+    let cannot_fault = |spot: &Spot| (spot.code, spot.turn) == (3, 1);
+    watch(&searches::ASKING_NO_KIND, "asking no kind", cannot_fault);
+    watch(&searches::NAMING_THE_LAST, "naming the last", cannot_fault);
 }

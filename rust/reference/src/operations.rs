@@ -12,7 +12,7 @@ use crate::fault::{Fault, Part};
 use crate::memory::{Access, Memory, Size};
 use crate::pages::Kind;
 use crate::processor::{Mode, State};
-use crate::transaction::Transaction;
+use crate::transaction::{Search, Transaction, by_the_rules};
 
 /// Addresses in tokens are multiples of this; the two bits below it are marks.
 const TOKEN_STEP: u64 = 4;
@@ -149,12 +149,22 @@ fn signed(word: u64) -> Option<i128> {
 ///
 /// The memory changes only if the instruction completes.
 pub fn step(state: &State, words: [u64; 4], memory: &mut Memory) -> Outcome {
+    step_with(state, words, memory, &by_the_rules)
+}
+
+/// The same with a search for the bytes of every access.
+pub(crate) fn step_with(
+    state: &State,
+    words: [u64; 4],
+    memory: &mut Memory,
+    search: &Search,
+) -> Outcome {
     let Some(instruction) = Instruction::read(words, state.mode) else {
         return Outcome::Refused;
     };
     let mut machine = Machine {
         state: *state,
-        memory: Transaction::begin(memory),
+        memory: Transaction::begin(memory, search),
     };
     match machine.carry_out(&instruction) {
         Ok(()) => {

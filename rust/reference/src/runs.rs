@@ -9,6 +9,7 @@ use crate::fault::Fault;
 use crate::memory::Memory;
 use crate::operations::{self, Outcome};
 use crate::processor::State;
+use crate::transaction::{Search, by_the_rules};
 
 /// How many words an instruction has.
 pub const WORDS: usize = 4;
@@ -95,6 +96,12 @@ impl Ending {
 
 /// Carries out a whole run.
 pub fn run(input: &Input) -> Report {
+    run_with(input, &by_the_rules)
+}
+
+/// The same with a search for the bytes of every access, which is another one
+/// in programs that are wrong on purpose.
+pub fn run_with(input: &Input, search: &Search) -> Report {
     let mut stage = match Stage::admit(input) {
         Ok(stage) => stage,
         Err(number) => {
@@ -105,7 +112,7 @@ pub fn run(input: &Input) -> Report {
             };
         }
     };
-    let (count, ending) = stage.play(instructions(input.words));
+    let (count, ending) = stage.play(instructions(input.words), search);
     Report {
         count,
         ending,
@@ -121,7 +128,8 @@ pub fn after(input: &Input, operations: u64) -> Option<Moment> {
     }
     let mut stage = Stage::admit(input).ok()?;
     let wanted = usize::try_from(operations).ok()?;
-    let (count, _) = stage.play(instructions(input.words).take(wanted));
+    let listed = instructions(input.words).take(wanted);
+    let (count, _) = stage.play(listed, &by_the_rules);
     (count == operations).then(|| stage.close())
 }
 
@@ -152,10 +160,14 @@ impl Stage {
     }
 
     /// Carries out instructions up to the first that does not complete.
-    fn play(&mut self, instructions: impl Iterator<Item = [u64; WORDS]>) -> (u64, Ending) {
+    fn play(
+        &mut self,
+        instructions: impl Iterator<Item = [u64; WORDS]>,
+        search: &Search,
+    ) -> (u64, Ending) {
         let mut count = 0;
         for words in instructions {
-            match operations::step(&self.state, words, &mut self.memory) {
+            match operations::step_with(&self.state, words, &mut self.memory, search) {
                 Outcome::Completed(state) => self.state = state,
                 Outcome::Refused => return (count, Ending::Refused(6)),
                 Outcome::Faulted(fault) => return (count, Ending::Faulted(fault)),

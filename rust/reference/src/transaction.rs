@@ -3,21 +3,41 @@
 use crate::memory::{Access, Memory, Obstacle};
 use std::collections::BTreeMap;
 
+/// What an access is made for.
+#[derive(Clone, Copy, Debug, PartialEq, Eq)]
+pub enum Purpose {
+    /// To load a number.
+    Load,
+    /// To store one.
+    Store,
+}
+
+/// A way to find the places of the bytes of an access, or what stands against
+/// it. There is one right way; others are for programs that are wrong on
+/// purpose.
+pub type Search<'run> = dyn Fn(&Memory, &Access, Purpose) -> Result<Vec<u64>, Obstacle> + 'run;
+
+/// The right way.
+pub fn by_the_rules(memory: &Memory, access: &Access, _: Purpose) -> Result<Vec<u64>, Obstacle> {
+    memory.places(access)
+}
+
 /// Accesses that belong together.
 ///
 /// Stores wait here until all of them are committed. A transaction that is
 /// dropped before leaves the memory as it was.
-#[derive(Debug)]
 pub struct Transaction<'memory> {
     memory: &'memory mut Memory,
+    search: &'memory Search<'memory>,
     waiting: BTreeMap<u64, u8>,
 }
 
 impl<'memory> Transaction<'memory> {
     /// Begins with no store waiting.
-    pub fn begin(memory: &'memory mut Memory) -> Self {
+    pub fn begin(memory: &'memory mut Memory, search: &'memory Search<'memory>) -> Self {
         Transaction {
             memory,
+            search,
             waiting: BTreeMap::new(),
         }
     }
@@ -25,7 +45,7 @@ impl<'memory> Transaction<'memory> {
     /// The number at the bytes of an access, its lowest byte first. Bytes that
     /// wait to be stored are seen as if they were.
     pub fn load(&self, access: &Access) -> Result<u64, Obstacle> {
-        let places = self.memory.places(access)?;
+        let places = (self.search)(self.memory, access, Purpose::Load)?;
         let weights = (0..).step_by(8);
         Ok(places
             .iter()
@@ -36,7 +56,7 @@ impl<'memory> Transaction<'memory> {
 
     /// Lets the low bytes of a number wait, if they can be stored there.
     pub fn store(&mut self, access: &Access, value: u64) -> Result<(), Obstacle> {
-        let places = self.memory.places(access)?;
+        let places = (self.search)(self.memory, access, Purpose::Store)?;
         self.waiting
             .extend(places.into_iter().zip(value.to_le_bytes()));
         Ok(())
@@ -79,7 +99,7 @@ mod tests {
     #[test]
     fn stores_are_seen_at_once_inside_and_later_outside() {
         let mut memory = memory();
-        let mut transaction = Transaction::begin(&mut memory);
+        let mut transaction = Transaction::begin(&mut memory, &by_the_rules);
         let eight = access(Size::Eight, 0x1008);
         let four = access(Size::Four, 0x1006);
         transaction.store(&eight, 0x8877_6655_4433_2211).unwrap();
@@ -96,7 +116,7 @@ mod tests {
     fn dropping_undoes_all() {
         let mut memory = memory();
         let before = memory.clone();
-        let mut transaction = Transaction::begin(&mut memory);
+        let mut transaction = Transaction::begin(&mut memory, &by_the_rules);
         transaction.store(&access(Size::Eight, 0x1ff8), 1).unwrap();
         assert_eq!(
             transaction.store(&access(Size::Eight, 0x1ffc), 1),

@@ -1,8 +1,9 @@
 //! Parts that are wrong on purpose, each in one thing.
 //!
-//! All of them call the library and then spoil what it did, either after the
+//! Most of them call the library and then spoil what it did, either after the
 //! whole run or after each single instruction. Those that are wrong about RET
-//! and about WRUSS have files of their own.
+//! and about WRUSS have files of their own. So have those that look for bytes
+//! in a wrong way, which are made from the second program.
 
 use driftpocket::run_raw as right;
 use driftpocket_compare::answer::{CP, FAULT, GP, PF};
@@ -33,6 +34,7 @@ macro_rules! wrong_step {
 }
 
 mod returns;
+pub mod searches;
 mod user_writes;
 
 /// A single instruction that was carried out rightly.
@@ -407,7 +409,7 @@ type Named = (&'static str, Part);
 
 /// All of them with their names.
 pub fn all() -> impl Iterator<Item = Named> {
-    [COMMON, returns::ALL, user_writes::ALL]
+    [COMMON, returns::ALL, user_writes::ALL, searches::ALL]
         .concat()
         .into_iter()
 }
