@@ -10,7 +10,7 @@
 -- Where addresses lead:
 --     spot-places                                            to places among the lent bytes, no two to one place
 --     first-byte-decides                                     on one page, the first byte's page, kind and place decide those of every byte
---     one-page-exactly                                       and that is so of every access whose bytes all lie on one page
+--     one-page-exactly                                       `onePage`, by which that is stated, holds wherever all bytes lie on the first one's page
 -- Two memories side by side, over any two lookups:
 --     ready-in-second, same-value, same-load                 an access done in the first is done in the second, with the same value
 --     store-in-both                                          a store keeps the relation

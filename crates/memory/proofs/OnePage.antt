@@ -1,5 +1,6 @@
--- Bytes that all lie on one page: the first one's page, kind and place decide those of all (`first-byte-decides`). From that: trying the first byte finds what trying all
--- finds; what is loaded is the number of the bytes in a row from the first one's place on; and a store sets those bytes and no other. Assumes nothing.
+-- Bytes that all lie on one page: the first one's page, kind and place decide those of all (`first-byte-decides`). From that: trying
+-- the first byte finds what trying all finds; what is loaded is the number of the bytes in a row from the first one's place on; and a
+-- store sets those bytes and no other. Assumes nothing.
 use Prim.Native.Nat.{ℕ, zero, suc, _+_, _-_, _*_, _/_, _%_, _^_, _<_, _≤_}
 use mathlib.Core.Path.{_≡_, refl, sym, _∙_, ap, ap₂}
 use mathlib.Core.Bool.{Bool, true, false, cond}
@@ -77,10 +78,18 @@ module _ (address i : ℕ) (same : address % pageBytes + i < pageBytes) where
 
 -- ---- an access on one page
 
+-- an access has a byte
+some : (size : Size) → 0 < byteCount size
+some size = omega (arith, at-least-four size)
+
+-- its bytes end where the page ends, or before
+ends-on-page : (a : Access) → onePage (start a) (byteCount (a .size)) ≡ true → start a % pageBytes + byteCount (a .size) ≤ pageBytes
+unfolding onePage
+ends-on-page a one = leb-true _ _ one
+
 module _ (a : Access) (one : onePage (start a) (byteCount (a .size)) ≡ true) (i : ℕ) (among : i < byteCount (a .size)) where
   on-its-page : start a % pageBytes + i < pageBytes
-  unfolding onePage
-  on-its-page = let h : start a % pageBytes + byteCount (a .size) ≤ pageBytes = leb-true _ _ one in omega arith
+  on-its-page = omega (arith, ends-on-page a one)
 
   address-further : plus (a .width) (start a) i ≡ start a + i
   address-further = no-wrap (start a) i on-its-page (a .width) (wrapped-start (a .width) (a .first))
@@ -109,13 +118,10 @@ one-page-exactly a same = go (leb (start a % pageBytes + byteCount (a .size)) pa
     go true e = refl
     go false e =
         let n : ℕ = byteCount (a .size) in
-        let some : 0 < n = omega (arith, at-least-four (a .size)) in
-        absurd (runs-over (a .width) (start a) n (wrapped-start (a .width) (a .first)) some (at-most-eight (a .size)) (leb-false _ _ e) (same (n - 1) (omega arith)))
+        let last : n - 1 < n = omega (arith, some (a .size)) in
+        absurd (runs-over (a .width) (start a) n (wrapped-start (a .width) (a .first)) (some (a .size)) (at-most-eight (a .size)) (leb-false _ _ e) (same (n - 1) last))
 
 -- ---- trying it
-
-some : (size : Size) → 0 < byteCount size
-some size = omega (arith, at-least-four size)
 
 scan-all : (test : ℕ → Reach) (w : Width) (address n : ℕ) → Wrapped w address → ((i : ℕ) → i < n → test (plus w address i) ≡ Ready) → scan test w address n ≡ Ready
 unfolding scan

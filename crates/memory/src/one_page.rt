@@ -32,10 +32,10 @@ fn one_page(address: u64, n: u64) -> bool
 }
 
 // Whether a byte that leads here is on a page of the kind, with its place.
-fn on_kind(kind: u64, address: u64, spot: Spot) -> Located
-    ensures { λ r. ⌜ r ≡ locatedIf (onKind kind address spot) (within spot) ⌝ }
+fn on_kind(kind: u64, address: u64, target: Spot) -> Located
+    ensures { λ r. ⌜ r ≡ locatedIf (onKind kind address target) (within target) ⌝ }
 {
-    match spot {
+    match target {
         Spot::Unlisted => Located::Blocked(Failure::NotListed(address)),
         Spot::At(found, place) => {
             if found == kind {

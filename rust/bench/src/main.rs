@@ -91,7 +91,7 @@ fn print_heading() {
     println!(
         "Nanoseconds per instruction, medians of {MEASUREMENTS}; state and bytes are put back"
     );
-    println!("before each run, outside of both times.");
+    println!("before each run, outside of the times.");
     if let Some((before, _)) = earlier.first() {
         println!(
             "An earlier library ({before}) completes the runs alike, measured in turn with both;"

@@ -4,7 +4,7 @@
 //! A part that looks up the page of a number once, and not that of every byte,
 //! goes wrong here if anywhere. So every load and store of every operation is
 //! made at every place around an end, with the pages on both sides listed in
-//! all orders, of a wrong kind, or not listed.
+//! several orders, of a wrong kind, or not listed.
 //!
 //! * [`layout`]: the ends, the pages beside them, their lists and bytes.
 //! * [`trials`]: the operations, each with one access at the end.

@@ -56,9 +56,10 @@ fn fixed_cases_notice_every_wrong_part() {
         refusals::rows(),
     ]
     .concat();
-    for (name, part) in wrong::all() {
+    // Wrong searches are for the ends of pages, below.
+    let is_search = |name: &str| searches::ALL.iter().any(|(other, _)| *other == name);
+    for (name, part) in wrong::all().filter(|(name, _)| !is_search(name)) {
         let noticed = check_each(part, rows.iter()).is_err();
-        let noticed = noticed || check_each(part, page_ends::rows()).is_err();
         assert!(noticed, "not noticed: {name}");
     }
 }
@@ -240,8 +241,8 @@ fn watch(search: &Search, name: &str, is_hidden: impl Fn(&Spot) -> bool) {
 
 #[test]
 fn every_access_of_every_operation_is_watched() {
-    // Only ordinary stacks, and 8 bytes on a shadow stack that is a multiple of
-    // 4, can lie on two pages.
+    // Only numbers on an ordinary stack, and 8 bytes on a shadow stack, whose
+    // pointer is a multiple of 4, can lie on two pages.
     watch(&searches::GOING_ON, "going on", |spot| {
         let ordinary = matches!((spot.code, spot.turn), (7..=10, 0));
         let shadow = matches!((spot.mode, spot.code), (2, 2 | 7..=10));

@@ -1,4 +1,5 @@
-//! The pages on both sides of an end, in all ways in which they can be listed.
+//! The pages on both sides of an end, of every kind or none, and several orders
+//! of the list.
 
 use crate::case::{Case, FOUR_GIB, PAGE, REPORT_WORDS};
 use driftpocket_reference::address::{ABOVE_HOLE, HOLE, LAST_PAGE};

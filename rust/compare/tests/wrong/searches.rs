@@ -1,8 +1,8 @@
 //! Parts that look for the bytes of a number in a wrong way.
 //!
-//! Each is the second program with another search in it. Most of them look up
-//! the page of a number once, where they think that it is whole on a page, and
-//! are wrong about when, about the page, or about the bytes.
+//! Each is the second program with another search in it. Most of them act like
+//! one that looks up the page of a number once, where it takes the number to be
+//! whole on a page, and are wrong about when, about the page, or about the bytes.
 
 use super::Named;
 use driftpocket_compare::answer::Answer;
