@@ -36,6 +36,7 @@ pub record OnLentPage (lent place n : ℕ) : Type 0 where
 
 -- ---- trying an access
 
+-- where an access lies, if trying it finds that it can be done, else why it cannot
 abbrev pub locatedIf : Reach → Located → Located
 locatedIf Ready found = found
 locatedIf (Blocked failure) found = Unreached failure

@@ -21,6 +21,7 @@ pub(crate) enum Located {
     Within(usize),
     // It can be done, on two pages.
     Across,
+    // It cannot be done.
     Blocked(Failure),
 }
 
