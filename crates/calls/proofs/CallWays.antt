@@ -9,14 +9,14 @@ use Rattle.memory.specs.declared.access.Access.{Access}
 use Rattle.memory.specs.declared.access.Failure.{Failure}
 use Rattle.memory.specs.declared.access.Reach.the-variants.{Ready, Blocked}
 use Rattle.processor.specs.Answer.{ss, gp}
-use Rattle.processor.specs.State.{enabled, minus, next, withSp, withSsp}
+use Rattle.processor.specs.State.{minus, next, withSp, withSsp}
 use Rattle.processor.specs.Accesses.{shadow, ordinary, blame}
 use Rattle.processor.specs.Outcomes.{completed, faulted, stepOf}
 use Rattle.processor.specs.Prog.{Prog, _>>=_, _>>_, ended, broken, store, storeBoth, onlyIf, interp, operate}
 use Rattle.processor.specs.declared.answer.Fault.{Fault}
 use Rattle.processor.specs.declared.state.State.{State}
 use Rattle.processor.proofs.Laws.{passed, halted, skipped, stored, not-stored, continues, breaks, completes, faults}
-use Rattle.calls.specs.Call.{inCode, pushed, runsPast, call}
+use Rattle.calls.specs.Call.{inCode, pushed, runsPast, pushesFrame, call}
 
 -- a store and a conditional one, where the test passes, are two stores
 two-stores : (look : Lookup) (bytes : List ℕ) {A : Type 0} (a : Access) (u : ℕ) (t : Bool) (b : Access) (v : ℕ) (p : Prog A) → t ≡ true
@@ -24,7 +24,7 @@ two-stores : (look : Lookup) (bytes : List ℕ) {A : Type 0} (a : Access) (u : �
 unfolding _>>=_
 two-stores look bytes a u t b v p e = rw e
 
-module _ (look : Lookup) (bytes : List ℕ) (target length : ℕ) (s : State) where
+module _ (look : Lookup) (bytes : List ℕ) (target : ℕ) (framed : Bool) (length : ℕ) (s : State) where
   -- SP and SSP after the pushes, and the two pushes
   abbrev pub newSp : ℕ
   newSp = minus s (s .sp) (byteCount (pushed s))
@@ -38,18 +38,18 @@ module _ (look : Lookup) (bytes : List ℕ) (target length : ℕ) (s : State) wh
   abbrev pub shadowPush : Access
   shadowPush = shadow s newSsp (pushed s) true
 
-  pub outside : inCode s target ≡ false → operate look (call target length s) s bytes ≡ stepOf (faulted s gp) bytes
+  pub outside : inCode s target ≡ false → operate look (call target framed length s) s bytes ≡ stepOf (faulted s gp) bytes
   unfolding call
   outside e = faults look _ s bytes gp (halted look bytes (inCode s target) gp _ e)
 
   module _ (inside : inCode s target ≡ true) where
-    pub stack-end : runsPast s newSp ≡ true → operate look (call target length s) s bytes ≡ stepOf (faulted s ss) bytes
+    pub stack-end : runsPast s newSp ≡ true → operate look (call target framed length s) s bytes ≡ stepOf (faulted s ss) bytes
     unfolding call
     stack-end e = faults look _ s bytes ss (passed look bytes (inCode s target) gp _ inside ∙ halted look bytes (not (runsPast s newSp)) ss _ (ap not e))
 
     module _ (fits : runsPast s newSp ≡ false) where
-      module _ (off : enabled s ≡ false) where
-        pub push-blocked : (failure : Failure) → probe look stackPush ≡ Blocked failure → operate look (call target length s) s bytes ≡ stepOf (faulted s (blame stackPush failure)) bytes
+      module _ (off : pushesFrame s framed ≡ false) where
+        pub push-blocked : (failure : Failure) → probe look stackPush ≡ Blocked failure → operate look (call target framed length s) s bytes ≡ stepOf (faulted s (blame stackPush failure)) bytes
         unfolding call
         push-blocked failure e =
             faults look _ s bytes _
@@ -57,34 +57,34 @@ module _ (look : Lookup) (bytes : List ℕ) (target length : ℕ) (s : State) wh
             ∙ passed look bytes (not (runsPast s newSp)) ss _ (ap not fits)
             ∙ not-stored look bytes stackPush (next s length) _ failure e)
 
-        pub push-done : probe look stackPush ≡ Ready → operate look (call target length s) s bytes ≡ stepOf (completed (withSp s newSp) target) (written look stackPush (next s length) bytes)
+        pub push-done : probe look stackPush ≡ Ready → operate look (call target framed length s) s bytes ≡ stepOf (completed (withSp s newSp) target) (written look stackPush (next s length) bytes)
         unfolding call interp
         push-done e =
             completes look _ s bytes _ _
             (passed look bytes (inCode s target) gp _ inside
             ∙ passed look bytes (not (runsPast s newSp)) ss _ (ap not fits)
             ∙ stored look bytes stackPush (next s length) _ e
-            ∙ skipped look _ (enabled s) _ _ off
+            ∙ skipped look _ (pushesFrame s framed) _ _ off
             ∙ rw off)
 
-      module _ (on : enabled s ≡ true) where
+      module _ (on : pushesFrame s framed ≡ true) where
         pub frame-failed : (fault : Fault) → interp look (storeBoth stackPush (next s length) shadowPush (next s length)) bytes ≡ broken fault
-            → operate look (call target length s) s bytes ≡ stepOf (faulted s fault) bytes
+            → operate look (call target framed length s) s bytes ≡ stepOf (faulted s fault) bytes
         unfolding call
         frame-failed fault e =
             faults look _ s bytes _
             (passed look bytes (inCode s target) gp _ inside
             ∙ passed look bytes (not (runsPast s newSp)) ss _ (ap not fits)
-            ∙ two-stores look bytes stackPush (next s length) (enabled s) shadowPush (next s length) _ on
+            ∙ two-stores look bytes stackPush (next s length) (pushesFrame s framed) shadowPush (next s length) _ on
             ∙ breaks look _ (storeBoth stackPush (next s length) shadowPush (next s length)) bytes fault e)
 
         pub frame-done : (after : List ℕ) → interp look (storeBoth stackPush (next s length) shadowPush (next s length)) bytes ≡ ended tt after
-            → operate look (call target length s) s bytes ≡ stepOf (completed (withSsp (withSp s newSp) newSsp) target) after
+            → operate look (call target framed length s) s bytes ≡ stepOf (completed (withSsp (withSp s newSp) newSsp) target) after
         unfolding call interp
         frame-done after e =
             completes look _ s bytes _ after
             (passed look bytes (inCode s target) gp _ inside
             ∙ passed look bytes (not (runsPast s newSp)) ss _ (ap not fits)
-            ∙ two-stores look bytes stackPush (next s length) (enabled s) shadowPush (next s length) _ on
+            ∙ two-stores look bytes stackPush (next s length) (pushesFrame s framed) shadowPush (next s length) _ on
             ∙ continues look _ (storeBoth stackPush (next s length) shadowPush (next s length)) bytes tt after e
             ∙ rw on)

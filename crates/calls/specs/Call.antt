@@ -1,7 +1,7 @@
 -- Near CALL, relative and absolute. Assumes nothing.
 use Prim.Native.Nat.{ℕ, _+_, _-_, _%_, _^_}
-use mathlib.Core.Bool.{Bool, true, not, cond, _&&_}
-use lib.Dec.{ltb, leb}
+use mathlib.Core.Bool.{Bool, true, false, not, cond, _&&_}
+use lib.Dec.{eqb, ltb, leb}
 use lib.IntN.{ℤ, pos, negsuc}
 use Rattle.memory.specs.Access.{byteCount}
 use Rattle.memory.specs.Address.{canonical}
@@ -21,6 +21,10 @@ displacement a =
     let low : ℕ = a % 2 ^ 32 in
     cond (ltb low (2 ^ 31)) (pos low) (negsuc (2 ^ 32 - 1 - low))
 
+abbrev pub isZero : ℤ → Bool
+isZero (pos n) = eqb n 0
+isZero (negsuc n) = false
+
 -- a pointer moved by a signed number; `negsuc d` is -(d + 1)
 abbrev pub moved : State → ℕ → ℤ → ℕ
 moved s from (pos d) = plus s from d
@@ -29,6 +33,10 @@ moved s from (negsuc d) = minus s from (d + 1)
 -- the target of a relative call
 unfoldable pub relative : State → ℕ → ℕ → ℕ
 relative s a length = moved s (next s length) (displacement a)
+
+-- a displacement other than 0; Intel's text has `DEST != 0`
+unfoldable pub displaced : ℕ → Bool
+displaced a = not (isZero (displacement a))
 
 -- in mode 2 the target must be canonical, otherwise within the code limit
 unfoldable pub inCode : State → ℕ → Bool
@@ -44,9 +52,14 @@ pushed s = cond (isLong s) Eight Four
 unfoldable pub runsPast : State → ℕ → Bool
 runsPast s first = not (isLong s) && ltb (2 ^ 32) (first + 4)
 
--- the call: Next on the ordinary stack and, where it is enabled, on the shadow stack; then the target
-unfoldable pub call : ℕ → ℕ → State → Prog State
-call target length s =
+-- the shadow stack is pushed on where it is enabled and the call is one that makes a frame
+unfoldable pub pushesFrame : State → Bool → Bool
+pushesFrame s framed = enabled s && framed
+
+-- The call: Next on the ordinary stack and, where the shadow stack is pushed on, there too; then the target. Only a relative call with
+-- displacement 0 makes no frame: `framed` is false for it, and it has no access of the shadow stack.
+unfoldable pub call : ℕ → Bool → ℕ → State → Prog State
+call target framed length s =
     let size : Size = pushed s in
     let sp : ℕ = minus s (s .sp) (byteCount size) in
     let ssp : ℕ = minus s (s .ssp) (byteCount size) in
@@ -54,5 +67,5 @@ call target length s =
       unless (inCode s target) gp  -- #GP(0)
       unless (not (runsPast s sp)) ss  -- #SS(0)
       store (ordinary s sp size true) (next s length)
-      onlyIf (enabled s) (store (shadow s ssp size true) (next s length))
-      done (withIp (withSsp (withSp s sp) (cond (enabled s) ssp (s .ssp))) target)
+      onlyIf (pushesFrame s framed) (store (shadow s ssp size true) (next s length))
+      done (withIp (withSsp (withSp s sp) (cond (pushesFrame s framed) ssp (s .ssp))) target)

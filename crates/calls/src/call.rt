@@ -4,7 +4,7 @@ ghost use lib.ListN.{length as count};
 ghost use Rattle.memory.specs.Pages.{spot};
 ghost use Rattle.processor.specs.Prog.{operate};
 ghost use Rattle.processor.specs.Outcomes.{stepOf};
-ghost use Rattle.calls.specs.Call.{displacement as displacementOf, moved as movedOf, relative as relativeOf, inCode, pushed as pushedOf, runsPast, call};
+ghost use Rattle.calls.specs.Call.{displacement as displacementOf, moved as movedOf, relative as relativeOf, displaced as displacedOf, inCode, pushed as pushedOf, runsPast, pushesFrame, call};
 use memory::Reach;
 use memory::Size;
 use processor::Outcome;
@@ -42,6 +42,13 @@ pub fn relative(state: State, a: u64, length: u64) -> u64
     moved(state, state.next(length), displacement(a))
 }
 
+// Whether the displacement of a relative call is other than 0.
+pub fn displaced(a: u64) -> bool
+    ensures { λ r. ⌜ r ≡ displacedOf a ⌝ }
+{
+    displacement(a) != 0
+}
+
 // Whether a call or a return may go to the target.
 pub(crate) fn in_code(state: State, target: u64) -> bool
     ensures { λ r. ⌜ r ≡ inCode state target ⌝ }
@@ -74,9 +81,23 @@ pub(crate) fn runs_past(state: State, first: u64) -> bool
     first > 0xffff_fffc
 }
 
-// The call to a target. A relative call's target is that of `relative`.
-pub fn execute(state: State, pages: &[u64], bytes: &mut [u8], target: u64, length: u64) -> Outcome
-    ensures { λ r. ⌜ stepOf r (now (bytes .exit)) ≡ operate (spot (now (pages .entry)) (count (now (bytes .entry)))) (call target length state) state (now (bytes .entry)) ⌝ }
+// Whether the call pushes on the shadow stack.
+fn pushes_frame(state: State, framed: bool) -> bool
+    ensures { λ r. ⌜ r ≡ pushesFrame state framed ⌝ }
+{
+    if state.enabled() { framed } else { false }
+}
+
+// The call to a target. A relative call's target is that of `relative`, and it makes a shadow frame only where it is `displaced`.
+pub fn execute(
+    state: State,
+    pages: &[u64],
+    bytes: &mut [u8],
+    target: u64,
+    framed: bool,
+    length: u64,
+) -> Outcome
+    ensures { λ r. ⌜ stepOf r (now (bytes .exit)) ≡ operate (spot (now (pages .entry)) (count (now (bytes .entry)))) (call target framed length state) state (now (bytes .entry)) ⌝ }
 {
     if !in_code(state, target) {
         return state.fail(processor::fault(Vector::Protection));
@@ -89,7 +110,7 @@ pub fn execute(state: State, pages: &[u64], bytes: &mut [u8], target: u64, lengt
     let next = state.next(length);
     let stack = state.ordinary(sp, size, true);
     let called = state.with_sp(sp);
-    if !state.enabled() {
+    if !pushes_frame(state, framed) {
         return match stack.store(pages, bytes, next) {
             Reach::Blocked(failure) => state.fail(processor::blame(stack, failure)),
             Reach::Ready => called.complete(target),

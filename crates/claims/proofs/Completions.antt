@@ -13,11 +13,11 @@ use Rattle.processor.specs.State.{widthOf, userMode, enabled, usable, permitted
 use Rattle.processor.specs.declared.answer.Answer.the-variants.{Completed}
 use Rattle.processor.specs.declared.state.State.{State}
 use Rattle.switches.specs.Saveprevssp.{carry}
-use Rattle.calls.specs.Call.{pushed}
+use Rattle.calls.specs.Call.{pushed, pushesFrame}
 use Rattle.replay.specs.Instruction.{isQuad, sizeOf, wordsFit, lengthFits, narrow, modeFits, wellFormed}
 use Rattle.replay.specs.Permission.{writeBit, withoutWrite, withCet, hidden, shown}
 use Rattle.replay.specs.Exec.{operationOf, exec, perform}
-use Rattle.replay.specs.Codes.{target, operationFrom9, operation, codes}
+use Rattle.replay.specs.Codes.{target, framed, operationFrom9, operation, codes}
 use Rattle.replay.specs.declared.instruction.Instruction.{Instruction}
 use Rattle.claims.specs.Ledger.{frameBytes, popped, pushedBy}
 use Rattle.claims.proofs.CodeNames.{Named, wrss, incssp, rstorssp, saveprevssp, call, ret, wruss, unknown, named}
@@ -79,13 +79,15 @@ past-turn s = go (carry s)
     go false = plus-back (widthOf s) (s .ssp) 8
 
 -- CALL
-below-turn : (s : State) → wrapped (widthOf s) (s .ssp + 0) ≡ wrapped (widthOf s) (belowPushed s + frameBytes s)
-unfolding minus frameBytes
+below-turn : (s : State) (framed : Bool) → wrapped (widthOf s) (s .ssp + 0) ≡ wrapped (widthOf s) (belowPushed s framed + cond framed (frameBytes s) 0)
+unfolding minus frameBytes pushesFrame
 below-turn s = go (enabled s)
   where
-    go : (t : Bool) → wrapped (widthOf s) (s .ssp + 0) ≡ wrapped (widthOf s) (cond t (minus s (s .ssp) (byteCount (pushed s))) (s .ssp) + cond t (byteCount (pushed s)) 0)
-    go true = minus-back (widthOf s) (s .ssp) (byteCount (pushed s))
-    go false = refl
+    go : (t framed : Bool) → wrapped (widthOf s) (s .ssp + 0) ≡ wrapped (widthOf s) (cond (t && framed) (minus s (s .ssp) (byteCount (pushed s))) (s .ssp) + cond framed (cond t (byteCount (pushed s)) 0) 0)
+    go true true = minus-back (widthOf s) (s .ssp) (byteCount (pushed s))
+    go true false = refl
+    go false true = refl
+    go false false = refl
 
 -- RET
 frame-turn : (s : State) → wrapped (widthOf s) (s .ssp + frameBytes s) ≡ wrapped (widthOf s) (pastFrame s + 0)
@@ -147,9 +149,9 @@ leads i allowed s form (saveprevssp t) =
     }
 leads i allowed s form (call t) =
     record {
-      new = belowPushed s;
-      leaves = rw (t .is-wrss, t .is-incssp, t .is-rstorssp, t .is-saveprevssp, t .is-call) (call-leaves (target i s) (i .length) s);
-      turn = λ other. rw (t .is-incssp, t .is-saveprevssp, t .is-ret, t .is-call) (below-turn s);
+      new = belowPushed s (framed i);
+      leaves = rw (t .is-wrss, t .is-incssp, t .is-rstorssp, t .is-saveprevssp, t .is-call) (call-leaves (target i s) (framed i) (i .length) s);
+      turn = λ other. rw (t .is-incssp, t .is-saveprevssp, t .is-ret, t .is-call) (below-turn s (framed i));
     }
 leads i allowed s form (ret t) =
     record {

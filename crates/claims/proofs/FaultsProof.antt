@@ -34,7 +34,7 @@ use Rattle.processor.specs.declared.state.State.{State}
 use Rattle.replay.specs.Instruction.{instructionAt, sizeOf}
 use Rattle.replay.specs.Permission.{hidden}
 use Rattle.replay.specs.Exec.{InstructionSet, operationOf, exec, refused, perform}
-use Rattle.replay.specs.Codes.{target, operationFrom9, operation, codes}
+use Rattle.replay.specs.Codes.{target, framed, operationFrom9, operation, codes}
 use Rattle.replay.specs.Run.{check, Run, run, after}
 use Rattle.replay.specs.declared.instruction.Instruction.{Instruction}
 use Rattle.replay.specs.declared.steps.Tested.{Tested}
@@ -140,7 +140,7 @@ module _ (i : Instruction) where
       let of-cp : Numbered i cpRstorssp = record { code = rw (t .is-ret); control = λ e. rw (t .is-rstorssp); address = λ e. refl } in
       rw (t .is-wrss, t .is-incssp, t .is-rstorssp) (rstorssp-stops numbered of-cp (i .a) (i .length) s)
   operation-stops allowed s (saveprevssp t) = rw (t .is-wrss, t .is-incssp, t .is-rstorssp, t .is-saveprevssp) (saveprevssp-stops numbered (i .length) s)
-  operation-stops allowed s (call t) = rw (t .is-wrss, t .is-incssp, t .is-rstorssp, t .is-saveprevssp, t .is-call) (call-stops numbered (target i s) (i .length) s)
+  operation-stops allowed s (call t) = rw (t .is-wrss, t .is-incssp, t .is-rstorssp, t .is-saveprevssp, t .is-call) (call-stops numbered (target i s) (framed i) (i .length) s)
   operation-stops allowed s (ret t) =
       let of-cp : Numbered i cpNearRet = record { code = rw (t .is-ret); control = λ e. rw (t .is-rstorssp, t .is-ret); address = λ e. refl } in
       rw (t .is-wrss, t .is-incssp, t .is-rstorssp, t .is-saveprevssp, t .is-call, t .is-ret) (ret-stops numbered of-cp (i .a) s)

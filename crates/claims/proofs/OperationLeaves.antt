@@ -17,7 +17,7 @@ use Rattle.shadow.specs.Wrss.{wrss}
 use Rattle.shadow.specs.Wruss.{recognised, wruss}
 use Rattle.switches.specs.Rstorssp.{goodToken, rstorssp}
 use Rattle.switches.specs.Saveprevssp.{carry, popHole, newTop, savedToken, leaveToken, saveprevssp}
-use Rattle.calls.specs.Call.{inCode, pushed, runsPast, call}
+use Rattle.calls.specs.Call.{inCode, pushed, runsPast, pushesFrame, call}
 use Rattle.calls.specs.Ret.{popFrame, newSsp, ret}
 use Rattle.claims.proofs.Leaves.{either, Leaves, then-leaves, all-leaves, tested-leaves}
 use Rattle.claims.proofs.PointerSums.{plus-below, minus-below, plus-aligned, minus-aligned, bytes-aligned}
@@ -166,20 +166,20 @@ saveprevssp-leaves length s =
     all-leaves _ _ _ (λ x.
     rw is (kept s _ _ _ _ (next-fits s length) (sp-fits s) (past-fits s) (λ h. past-of-4 s (h .aligned)))))))))
 
--- where it is enabled, below what is pushed
-abbrev pub belowPushed : State → ℕ
-belowPushed s = cond (enabled s) (minus s (s .ssp) (byteCount (pushed s))) (s .ssp)
+-- below what is pushed, where a frame is
+abbrev pub belowPushed : State → Bool → ℕ
+belowPushed s framed = cond (pushesFrame s framed) (minus s (s .ssp) (byteCount (pushed s))) (s .ssp)
 
-pub call-leaves : (target length : ℕ) (s : State) → Leaves (Kept s (belowPushed s)) (call target length s)
+pub call-leaves : (target : ℕ) (framed : Bool) (length : ℕ) (s : State) → Leaves (Kept s (belowPushed s framed)) (call target framed length s)
 unfolding call Leaves
-call-leaves target length s =
+call-leaves target framed length s =
     tested-leaves _ (inCode s target) gp _ (λ inside.
     tested-leaves _ (not (runsPast s (minus s (s .sp) (byteCount (pushed s))))) ss _ (λ e.
     all-leaves _ _ _ (λ x.
     all-leaves _ _ _ (λ y.
     kept s _ _ _ _ (target-fits s target inside) (minus-fits s (s .sp) (byteCount (pushed s)))
-    (either (Pointer s) (enabled s) _ _ (minus-fits s (s .ssp) (byteCount (pushed s))) (ssp-fits s))
-    (λ h. either (λ (n : ℕ). n % 4 ≡ 0) (enabled s) _ _ (minus-of-4 s (s .ssp) (pushed s) (h .aligned)) (h .aligned))))))
+    (either (Pointer s) (pushesFrame s framed) _ _ (minus-fits s (s .ssp) (byteCount (pushed s))) (ssp-fits s))
+    (λ h. either (λ (n : ℕ). n % 4 ≡ 0) (pushesFrame s framed) _ _ (minus-of-4 s (s .ssp) (pushed s) (h .aligned)) (h .aligned))))))
 
 -- where it is enabled, past the frame
 abbrev pub pastFrame : State → ℕ

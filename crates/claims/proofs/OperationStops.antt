@@ -18,7 +18,7 @@ use Rattle.shadow.specs.Wrss.{wrss}
 use Rattle.shadow.specs.Wruss.{recognised, wruss}
 use Rattle.switches.specs.Rstorssp.{goodToken, rstorssp}
 use Rattle.switches.specs.Saveprevssp.{carry, popHole, newTop, savedToken, leaveToken, saveprevssp}
-use Rattle.calls.specs.Call.{inCode, pushed, runsPast, call}
+use Rattle.calls.specs.Call.{inCode, pushed, runsPast, pushesFrame, call}
 use Rattle.calls.specs.Ret.{popFrame, newSsp, ret}
 use Rattle.claims.proofs.Leaves.{either}
 
@@ -113,13 +113,13 @@ module _ {P : Fault → Type 0} (plain : Plain P) where
       tested-stops (savedToken s token) gp (plain .of-gp)
       (then-stops (then-stops (stores _ _ ends) (λ x. stores _ _ ends)) (λ y. ends))))))
 
-  pub call-stops : (target length : ℕ) (s : State) → Stops P (call target length s)
+  pub call-stops : (target : ℕ) (framed : Bool) (length : ℕ) (s : State) → Stops P (call target framed length s)
   unfolding call
-  call-stops target length s =
+  call-stops target framed length s =
       tested-stops (inCode s target) gp (plain .of-gp)
       (tested-stops (not (runsPast s (minus s (s .sp) (byteCount (pushed s))))) ss (plain .of-ss)
       (then-stops (stores _ _ ends) (λ x.
-      then-stops (picked-stops (enabled s) (stores _ _ ends) ends) (λ y. ends))))
+      then-stops (picked-stops (pushesFrame s framed) (stores _ _ ends) ends) (λ y. ends))))
 
   frame-stops : P cpNearRet → (s : State) (target : ℕ) → Stops P (newSsp s target)
   unfolding newSsp popFrame

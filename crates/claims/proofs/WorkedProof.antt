@@ -10,12 +10,12 @@ use Rattle.shadow.specs.Wrss.{wrss}
 use Rattle.shadow.specs.Wruss.{recognised, wruss}
 use Rattle.switches.specs.Rstorssp.{home, goodToken, restoredFlags, rstorssp}
 use Rattle.switches.specs.Saveprevssp.{popHole, newTop, savedToken, leaveToken, saveprevssp}
-use Rattle.calls.specs.Call.{displacement, relative, inCode, runsPast, call}
+use Rattle.calls.specs.Call.{displacement, relative, displaced, inCode, runsPast, pushesFrame, call}
 use Rattle.calls.specs.Ret.{popFrame, newSsp, ret}
 use Rattle.replay.specs.Instruction.{instructionAt, oneOf, isQuad, lengthFits, wordsFitFrom9, wordsFit, narrow, modeFits, wellFormed}
 use Rattle.replay.specs.Permission.{writeBit, withoutWrite, hidden, shown}
 use Rattle.replay.specs.Exec.{operationOf, exec, perform}
-use Rattle.replay.specs.Codes.{target, operationFrom9, operation}
+use Rattle.replay.specs.Codes.{target, framed, operationFrom9, operation}
 use Rattle.replay.specs.Run.{badWords, check, runFrom, run}
 use Rattle.claims.specs.Worked.{placeIn, lowBytes, over, laidOver, withWords, lentBytes, result, expected, Worked}
 use Rattle.claims.specs.WorkedReturns.{WorkedReturns}
@@ -25,9 +25,9 @@ unfolding scan canonicalBytes listedBytes probe number value write written wrapp
     pageOf kindOf wrongLength badKind badAddress onPage anyEntry repeated listing inPage spotFrom spot
     _>>=_ interp operate plusOf minusOf next enabled usable permitted inRange
     incssp wrss recognised wruss home goodToken restoredFlags rstorssp popHole newTop savedToken leaveToken saveprevssp
-    displacement relative inCode runsPast call popFrame newSsp ret
+    displacement relative displaced inCode runsPast pushesFrame call popFrame newSsp ret
     instructionAt oneOf isQuad lengthFits wordsFitFrom9 wordsFit narrow modeFits wellFormed
-    writeBit withoutWrite hidden shown operationOf exec perform target operationFrom9 operation badWords check runFrom run
+    writeBit withoutWrite hidden shown operationOf exec perform target framed operationFrom9 operation badWords check runFrom run
     placeIn lowBytes over laidOver withWords lentBytes result expected
 all-worked = (refl, refl)
 

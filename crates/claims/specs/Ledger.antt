@@ -1,7 +1,7 @@
 -- The ledger of the shadow stack pointer (docs/RULES.md, "The ledger"). Assumes nothing.
 use Prim.Native.Nat.{ℕ, zero, suc, _+_, _*_, _%_, _<_}
 use mathlib.Core.Path.{_≡_}
-use mathlib.Core.Bool.{cond}
+use mathlib.Core.Bool.{cond, _&&_}
 use mathlib.Core.List.{List}
 use lib.ListN.{length}
 use lib.Dec.{eqb}
@@ -13,11 +13,11 @@ use Rattle.processor.specs.declared.state.State.{State}
 use Rattle.switches.specs.Saveprevssp.{carry}
 use Rattle.calls.specs.Call.{pushed}
 use Rattle.replay.specs.Instruction.{instructionAt, isIncssp, isCall, isRet, sizeOf}
-use Rattle.replay.specs.Codes.{codes}
+use Rattle.replay.specs.Codes.{framed, codes}
 use Rattle.replay.specs.Run.{Run, run, after}
 use Rattle.replay.specs.declared.instruction.Instruction.{Instruction}
 
--- bytes of a frame, which a call pushes and a return pops while enabled
+-- bytes of a frame, where the shadow stack is enabled, and otherwise 0
 unfoldable pub frameBytes : State → ℕ
 frameBytes s = cond (enabled s) (byteCount (pushed s)) 0
 
@@ -30,9 +30,9 @@ popped i s =
     (cond (isRet i) (frameBytes s)
     0))
 
--- bytes pushed by it: a frame by CALL
+-- bytes pushed by it: a frame by CALL, but nothing by a relative one with displacement 0
 unfoldable pub pushedBy : Instruction → State → ℕ
-pushedBy i s = cond (isCall i) (frameBytes s) 0
+pushedBy i s = cond (isCall i && framed i) (frameBytes s) 0
 
 -- the sum over the first k instructions of what each one, with its opening state, counts for
 unfoldable pub sumOf : (Instruction → State → ℕ) → (ℕ → Instruction) → (ℕ → State) → ℕ → ℕ

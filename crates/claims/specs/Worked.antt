@@ -1,4 +1,4 @@
--- The worked cases P1 to P13 (docs/RULES.md, "Worked cases"): rows of data, and one claim over all of them. What a row expects is
+-- The worked cases P1 to P18 (docs/RULES.md, "Worked cases"): rows of data, and one claim over all of them. What a row expects is
 -- written from the rules by hand. Every byte of the final memory is compared, and every register. Assumes nothing.
 use Prim.Native.Nat.{ℕ, zero, suc, _+_, _*_, _/_, _%_}
 use mathlib.Core.Path.{_≡_}
@@ -244,10 +244,46 @@ abbrev pub p13 : Row
 p13 = completes 1 (stateOf 1 1 0x40_0000 0x5010 0x2fe0 1) (qword 0x2fe0 0x1ff2 ∷ dword 0x2fe8 0 ∷ dword 0x2fec 0xffff_ffff ∷ qword 0x1fe8 0x1122_3344_5566_7788 ∷ []) saveprevssp
     (stateOf 1 1 0x40_0005 0x5010 0x2fec 1) (qword 0x1fe8 0x1ff0 ∷ [])
 
+-- ---- CALL of the next instruction
+
+-- P14. By displacement 0: the address goes on the ordinary stack alone. SSP stays, and so does what lies below it.
+abbrev pub p14 : Row
+p14 = completes 1 (long 0x40_0000 0x1ff0 0) (qword 0x5008 0x1122_3344_5566_7788 ∷ qword 0x1fe8 0x1122_3344_5566_7788 ∷ []) (callRelative 0)
+    (stateOf 2 1 0x40_0005 0x5008 0x1ff0 0) (qword 0x5008 0x40_0005 ∷ [])
+
+-- P15. By its address: a call like any other, which goes on both stacks.
+abbrev pub p15 : Row
+p15 = completes 1 (long 0x40_0000 0x1ff0 0) (qword 0x5008 0x1122_3344_5566_7788 ∷ qword 0x1fe8 0x1122_3344_5566_7788 ∷ []) (callAbsolute 0x40_0005)
+    (stateOf 2 1 0x40_0005 0x5008 0x1fe8 0) (qword 0x5008 0x40_0005 ∷ qword 0x1fe8 0x40_0005 ∷ [])
+
+-- P16. Half of the frame would lie on no page. Displacement 0 does not ask; the address does.
+abbrev pub p16Relative : Row
+p16Relative = completes 1 (long 0x40_0000 0x1004 0) [] (callRelative 0)
+    (stateOf 2 1 0x40_0005 0x5008 0x1004 0) (qword 0x5008 0x40_0005 ∷ [])
+
+abbrev pub p16Absolute : Row
+p16Absolute = faults (long 0x40_0000 0x1004 0) [] (callAbsolute 0x40_0005) (faultOf Page 0 0xffc)
+
+-- P17. The frame would lie at the lowest address that is not canonical. Likewise.
+abbrev pub p17Relative : Row
+p17Relative = completes 1 (long 0x40_0000 0x0000_8000_0000_0008 0) [] (callRelative 0)
+    (stateOf 2 1 0x40_0005 0x5008 0x0000_8000_0000_0008 0) (qword 0x5008 0x40_0005 ∷ [])
+
+abbrev pub p17Absolute : Row
+p17Absolute = faults (long 0x40_0000 0x0000_8000_0000_0008 0) [] (callAbsolute 0x40_0005) (faultOf Protection 0 0)
+
+-- P18. Mode 1, where both pushes have 4 bytes and the frame would lie on no page. Likewise.
+abbrev pub p18Relative : Row
+p18Relative = completes 1 (stateOf 1 1 0x40_0000 0x5010 0x1000 0) (qword 0x5008 0x1122_3344_5566_7788 ∷ []) (callRelative 0)
+    (stateOf 1 1 0x40_0005 0x500c 0x1000 0) (dword 0x500c 0x40_0005 ∷ [])
+
+abbrev pub p18Absolute : Row
+p18Absolute = faults (stateOf 1 1 0x40_0000 0x5010 0x1000 0) [] (callAbsolute 0x40_0005) (faultOf Page 0 0xffc)
+
 -- ---- all of them
 
 abbrev pub rows : List Row
-rows = p1 ∷ p2 ∷ p3Two ∷ p3Four ∷ p4 ∷ p5 ∷ p6 ∷ p6Back ∷ p6Hole ∷ p7 ∷ p8 ∷ p9Forbidden ∷ p9Written ∷ p9Aligned ∷ p9Ordinary ∷ p10 ∷ p11 ∷ p12 ∷ p13 ∷ []
+rows = p1 ∷ p2 ∷ p3Two ∷ p3Four ∷ p4 ∷ p5 ∷ p6 ∷ p6Back ∷ p6Hole ∷ p7 ∷ p8 ∷ p9Forbidden ∷ p9Written ∷ p9Aligned ∷ p9Ordinary ∷ p10 ∷ p11 ∷ p12 ∷ p13 ∷ p14 ∷ p15 ∷ p16Relative ∷ p16Absolute ∷ p17Relative ∷ p17Absolute ∷ p18Relative ∷ p18Absolute ∷ []
 
 -- Every row's run gives what the row expects: count, answer, all registers, all bytes.
 abbrev pub Worked : Type 0

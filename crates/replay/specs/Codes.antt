@@ -1,6 +1,6 @@
 -- The instruction set that is built: codes 1 to 12 (docs/RULES.md, "Instructions"). Assumes nothing.
 use Prim.Native.Nat.{ℕ}
-use mathlib.Core.Bool.{cond}
+use mathlib.Core.Bool.{Bool, true, cond}
 use lib.Dec.{eqb}
 use Rattle.processor.specs.Answer.{ud}
 use Rattle.processor.specs.Prog.{Prog, stop}
@@ -9,7 +9,7 @@ use Rattle.shadow.specs.Incssp.{incssp}
 use Rattle.shadow.specs.Wruss.{wruss}
 use Rattle.switches.specs.Rstorssp.{rstorssp}
 use Rattle.switches.specs.Saveprevssp.{saveprevssp}
-use Rattle.calls.specs.Call.{relative, call}
+use Rattle.calls.specs.Call.{relative, displaced, call}
 use Rattle.calls.specs.Ret.{ret}
 use Rattle.replay.specs.Instruction.{isIncssp, isCall, isRet, isWruss, sizeOf, wellFormed}
 use Rattle.replay.specs.Exec.{InstructionSet}
@@ -18,6 +18,10 @@ use Rattle.replay.specs.declared.instruction.Instruction.{Instruction}
 -- the target of code 7 is relative to Next, that of code 8 is A
 unfoldable pub target : Instruction → State → ℕ
 target i s = cond (eqb (i .code) 7) (relative s (i .a) (i .length)) (i .a)
+
+-- code 7 makes a shadow frame unless its displacement is 0; code 8 always does, also where its target is Next
+unfoldable pub framed : Instruction → Bool
+framed i = cond (eqb (i .code) 7) (displaced (i .a)) true
 
 -- codes 9 to 12; A is 0 in RET without a count, and an unknown code has been refused before
 unfoldable pub operationFrom9 : Instruction → State → Prog State
@@ -32,7 +36,7 @@ operation i s =
     cond (isIncssp i) (incssp (sizeOf i) (i .b) (i .length) s)
     (cond (eqb (i .code) 3) (rstorssp (i .a) (i .length) s)
     (cond (eqb (i .code) 4) (saveprevssp (i .length) s)
-    (cond (isCall i) (call (target i s) (i .length) s)
+    (cond (isCall i) (call (target i s) (framed i) (i .length) s)
     (operationFrom9 i s))))
 
 abbrev pub codes : InstructionSet

@@ -6,7 +6,7 @@ ghost use Rattle.processor.specs.Prog.{operate};
 ghost use Rattle.processor.specs.Outcomes.{stepOf};
 ghost use Rattle.replay.specs.Exec.{operationOf, perform as performOf};
 ghost use Rattle.replay.specs.Unhidden.{unhidden};
-ghost use Rattle.replay.specs.Codes.{codes, target as targetOf, operationFrom9};
+ghost use Rattle.replay.specs.Codes.{codes, target as targetOf, framed as framedOf, operationFrom9};
 use crate::instruction::Instruction;
 use crate::permission::hidden;
 use crate::permission::shown;
@@ -24,6 +24,17 @@ fn call_target(step: Instruction, state: State) -> u64
         calls::call::relative(state, step.a, step.length)
     } else {
         step.a
+    }
+}
+
+// Whether a call makes a shadow frame.
+fn framed(step: Instruction) -> bool
+    ensures { λ r. ⌜ r ≡ framedOf step ⌝ }
+{
+    if step.code == 7 {
+        calls::call::displaced(step.a)
+    } else {
+        true
     }
 }
 
@@ -68,7 +79,8 @@ fn dispatch(
         return switches::saveprevssp::execute(state, pages, bytes, length);
     }
     if step.is_call() {
-        return calls::call::execute(state, pages, bytes, call_target(step, state), length);
+        let target = call_target(step, state);
+        return calls::call::execute(state, pages, bytes, target, framed(step), length);
     }
     dispatch_from_9(step, state, pages, bytes)
 }

@@ -35,22 +35,22 @@ new-sp c = rw (c .minus .ensures, c .before .bytes .ensures, c .before .before .
 past : (c : tie.After-runs-past) → runsPast (c .before .before .before .before .before .before .before .before .args .state) (minus (c .before .before .before .before .before .before .before .before .args .state) (c .before .before .before .before .before .before .before .before .args .state .sp) (byteCount (pushed (c .before .before .before .before .before .before .before .before .args .state)))) ≡ c .runs-past .result
 past c = rw (← new-sp (c .before)) (sym (c .runs-past .ensures))
 
-stack-push : (c : tie.After-ordinary) → c .ordinary .result ≡ stackPush (spot (c .before .before .before .before .before .before .before .before .before .before .before .args .pages .now) (count (c .before .before .before .before .before .before .before .before .before .before .before .args .bytes .now))) (c .before .before .before .before .before .before .before .before .before .before .before .args .bytes .now) (c .before .before .before .before .before .before .before .before .before .before .before .args .target) (c .before .before .before .before .before .before .before .before .before .before .before .args .length) (c .before .before .before .before .before .before .before .before .before .before .before .args .state)
+stack-push : (c : tie.After-ordinary) → c .ordinary .result ≡ stackPush (spot (c .before .before .before .before .before .before .before .before .before .before .before .args .pages .now) (count (c .before .before .before .before .before .before .before .before .before .before .before .args .bytes .now))) (c .before .before .before .before .before .before .before .before .before .before .before .args .bytes .now) (c .before .before .before .before .before .before .before .before .before .before .before .args .target) (c .before .before .before .before .before .before .before .before .before .before .before .args .framed) (c .before .before .before .before .before .before .before .before .before .before .before .args .length) (c .before .before .before .before .before .before .before .before .before .before .before .args .state)
 stack-push c = rw (c .ordinary .ensures, new-sp (c .before .before .before .before), c .before .before .before .before .before .before .pushed .ensures)
 
 new-ssp : (c : tie.After-minus2) → c .minus2 .result ≡ minus (c .before .before .before .before .before .before .before .before .before .before .before .before .before .before .before .before .args .state) (c .before .before .before .before .before .before .before .before .before .before .before .before .before .before .before .before .args .state .ssp) (byteCount (pushed (c .before .before .before .before .before .before .before .before .before .before .before .before .before .before .before .before .args .state)))
 new-ssp c = rw (c .minus2 .ensures, c .before .bytes3 .ensures, c .before .before .before .before .before .before .before .before .before .before .before .pushed .ensures)
 
-shadow-push : (c : tie.After-shadow) → c .shadow .result ≡ shadowPush (spot (c .before .before .before .before .before .before .before .before .before .before .before .before .before .before .before .before .before .args .pages .now) (count (c .before .before .before .before .before .before .before .before .before .before .before .before .before .before .before .before .before .args .bytes .now))) (c .before .before .before .before .before .before .before .before .before .before .before .before .before .before .before .before .before .args .bytes .now) (c .before .before .before .before .before .before .before .before .before .before .before .before .before .before .before .before .before .args .target) (c .before .before .before .before .before .before .before .before .before .before .before .before .before .before .before .before .before .args .length) (c .before .before .before .before .before .before .before .before .before .before .before .before .before .before .before .before .before .args .state)
+shadow-push : (c : tie.After-shadow) → c .shadow .result ≡ shadowPush (spot (c .before .before .before .before .before .before .before .before .before .before .before .before .before .before .before .before .before .args .pages .now) (count (c .before .before .before .before .before .before .before .before .before .before .before .before .before .before .before .before .before .args .bytes .now))) (c .before .before .before .before .before .before .before .before .before .before .before .before .before .before .before .before .before .args .bytes .now) (c .before .before .before .before .before .before .before .before .before .before .before .before .before .before .before .before .before .args .target) (c .before .before .before .before .before .before .before .before .before .before .before .before .before .before .before .before .before .args .framed) (c .before .before .before .before .before .before .before .before .before .before .before .before .before .before .before .before .before .args .length) (c .before .before .before .before .before .before .before .before .before .before .before .before .before .before .before .before .before .args .state)
 shadow-push c = rw (c .shadow .ensures, new-ssp (c .before), c .before .before .before .before .before .before .before .before .before .before .before .before .pushed .ensures)
 
-tried : (c : tie.After-store) → probe (spot (c .before .before .before .before .before .before .before .before .before .before .before .before .before .before .before .before .args .pages .now) (count (c .before .before .before .before .before .before .before .before .before .before .before .before .before .before .before .before .args .bytes .now))) (stackPush (spot (c .before .before .before .before .before .before .before .before .before .before .before .before .before .before .before .before .args .pages .now) (count (c .before .before .before .before .before .before .before .before .before .before .before .before .before .before .before .before .args .bytes .now))) (c .before .before .before .before .before .before .before .before .before .before .before .before .before .before .before .before .args .bytes .now) (c .before .before .before .before .before .before .before .before .before .before .before .before .before .before .before .before .args .target) (c .before .before .before .before .before .before .before .before .before .before .before .before .before .before .before .before .args .length) (c .before .before .before .before .before .before .before .before .before .before .before .before .before .before .before .before .args .state)) ≡ c .store .result
+tried : (c : tie.After-store) → probe (spot (c .before .before .before .before .before .before .before .before .before .before .before .before .before .before .before .before .args .pages .now) (count (c .before .before .before .before .before .before .before .before .before .before .before .before .before .before .before .before .args .bytes .now))) (stackPush (spot (c .before .before .before .before .before .before .before .before .before .before .before .before .before .before .before .before .args .pages .now) (count (c .before .before .before .before .before .before .before .before .before .before .before .before .before .before .before .before .args .bytes .now))) (c .before .before .before .before .before .before .before .before .before .before .before .before .before .before .before .before .args .bytes .now) (c .before .before .before .before .before .before .before .before .before .before .before .before .before .before .before .before .args .target) (c .before .before .before .before .before .before .before .before .before .before .before .before .before .before .before .before .args .framed) (c .before .before .before .before .before .before .before .before .before .before .before .before .before .before .before .before .args .length) (c .before .before .before .before .before .before .before .before .before .before .before .before .before .before .before .before .args .state)) ≡ c .store .result
 tried c = rw (← stack-push (c .before .before .before .before .before)) (sym (c .store .ensures .0))
 
 abbrev the-stores : tie.After-store-both → Result (Unit {0})
 the-stores c =
     interp (spot (c .before .before .before .before .before .before .before .before .before .before .before .before .before .before .before .before .before .before .before .args .pages .now) (count (c .before .before .before .before .before .before .before .before .before .before .before .before .before .before .before .before .before .before .before .args .bytes .now)))
-    (storeBoth (stackPush (spot (c .before .before .before .before .before .before .before .before .before .before .before .before .before .before .before .before .before .before .before .args .pages .now) (count (c .before .before .before .before .before .before .before .before .before .before .before .before .before .before .before .before .before .before .before .args .bytes .now))) (c .before .before .before .before .before .before .before .before .before .before .before .before .before .before .before .before .before .before .before .args .bytes .now) (c .before .before .before .before .before .before .before .before .before .before .before .before .before .before .before .before .before .before .before .args .target) (c .before .before .before .before .before .before .before .before .before .before .before .before .before .before .before .before .before .before .before .args .length) (c .before .before .before .before .before .before .before .before .before .before .before .before .before .before .before .before .before .before .before .args .state)) (next (c .before .before .before .before .before .before .before .before .before .before .before .before .before .before .before .before .before .before .before .args .state) (c .before .before .before .before .before .before .before .before .before .before .before .before .before .before .before .before .before .before .before .args .length)) (shadowPush (spot (c .before .before .before .before .before .before .before .before .before .before .before .before .before .before .before .before .before .before .before .args .pages .now) (count (c .before .before .before .before .before .before .before .before .before .before .before .before .before .before .before .before .before .before .before .args .bytes .now))) (c .before .before .before .before .before .before .before .before .before .before .before .before .before .before .before .before .before .before .before .args .bytes .now) (c .before .before .before .before .before .before .before .before .before .before .before .before .before .before .before .before .before .before .before .args .target) (c .before .before .before .before .before .before .before .before .before .before .before .before .before .before .before .before .before .before .before .args .length) (c .before .before .before .before .before .before .before .before .before .before .before .before .before .before .before .before .before .before .before .args .state)) (next (c .before .before .before .before .before .before .before .before .before .before .before .before .before .before .before .before .before .before .before .args .state) (c .before .before .before .before .before .before .before .before .before .before .before .before .before .before .before .before .before .before .before .args .length)))
+    (storeBoth (stackPush (spot (c .before .before .before .before .before .before .before .before .before .before .before .before .before .before .before .before .before .before .before .args .pages .now) (count (c .before .before .before .before .before .before .before .before .before .before .before .before .before .before .before .before .before .before .before .args .bytes .now))) (c .before .before .before .before .before .before .before .before .before .before .before .before .before .before .before .before .before .before .before .args .bytes .now) (c .before .before .before .before .before .before .before .before .before .before .before .before .before .before .before .before .before .before .before .args .target) (c .before .before .before .before .before .before .before .before .before .before .before .before .before .before .before .before .before .before .before .args .framed) (c .before .before .before .before .before .before .before .before .before .before .before .before .before .before .before .before .before .before .before .args .length) (c .before .before .before .before .before .before .before .before .before .before .before .before .before .before .before .before .before .before .before .args .state)) (next (c .before .before .before .before .before .before .before .before .before .before .before .before .before .before .before .before .before .before .before .args .state) (c .before .before .before .before .before .before .before .before .before .before .before .before .before .before .before .before .before .before .before .args .length)) (shadowPush (spot (c .before .before .before .before .before .before .before .before .before .before .before .before .before .before .before .before .before .before .before .args .pages .now) (count (c .before .before .before .before .before .before .before .before .before .before .before .before .before .before .before .before .before .before .before .args .bytes .now))) (c .before .before .before .before .before .before .before .before .before .before .before .before .before .before .before .before .before .before .before .args .bytes .now) (c .before .before .before .before .before .before .before .before .before .before .before .before .before .before .before .before .before .before .before .args .target) (c .before .before .before .before .before .before .before .before .before .before .before .before .before .before .before .before .before .before .before .args .framed) (c .before .before .before .before .before .before .before .before .before .before .before .before .before .before .before .before .before .before .before .args .length) (c .before .before .before .before .before .before .before .before .before .before .before .before .before .before .before .before .before .before .before .args .state)) (next (c .before .before .before .before .before .before .before .before .before .before .before .before .before .before .before .before .before .before .before .args .state) (c .before .before .before .before .before .before .before .before .before .before .before .before .before .before .before .before .before .before .before .args .length)))
     (c .before .before .before .before .before .before .before .before .before .before .before .before .before .before .before .before .before .before .before .args .bytes .now)
 
 stores : (c : tie.After-store-both) → (c .store-both .result ≡ storedOf (the-stores c)) × (c .store-both .last .1 .0 ≡ left (the-stores c) (c .before .before .before .before .before .before .before .before .before .before .before .before .before .before .before .before .before .before .before .args .bytes .now))
@@ -59,7 +59,7 @@ stores c = rw (stack-push (c .before .before .before .before .before .before .be
 returns : tie.Need-returns
 returns c =
     rw (c .fail .ensures, c .before .fault .ensures)
-    (sym (outside _ _ _ _ _ (sym (c .before .before .before .in-code .ensures) ∙ not-true _ (c .before .before .if1 .taken))))
+    (sym (outside _ _ _ _ _ _ (sym (c .before .before .before .in-code .ensures) ∙ not-true _ (c .before .before .if1 .taken))))
 
 pushed-requires : tie.Need-pushed-requires
 pushed-requires c κs = search needs
@@ -82,7 +82,7 @@ fail-requires-2 c κs = search needs
 returns-2 : tie.Need-returns-2
 returns-2 c =
     rw (c .fail2 .ensures, c .before .fault2 .ensures)
-    (sym (stack-end _ _ _ _ _ (is-inside (c .before .before .before .before .before .before .before)) (past (c .before .before .before) ∙ c .before .before .if2 .taken)))
+    (sym (stack-end _ _ _ _ _ _ (is-inside (c .before .before .before .before .before .before .before)) (past (c .before .before .before) ∙ c .before .before .if2 .taken)))
 
 next-requires : tie.Need-next-requires
 next-requires c κs = search needs
@@ -93,8 +93,8 @@ ordinary-requires c κs = search needs
 with-sp-requires : tie.Need-with-sp-requires
 with-sp-requires c κs = search needs
 
-enabled-requires : tie.Need-enabled-requires
-enabled-requires c κs = search needs
+pushes-frame-requires : tie.Need-pushes-frame-requires
+pushes-frame-requires c κs = search needs
 
 store-requires : tie.Need-store-requires
 store-requires c κs = search needs
@@ -121,7 +121,7 @@ returns-3 : tie.Need-returns-3
 returns-3 c =
     let failed = tried (c .before .before .before .before .before .before .before) ∙ c .before .before .before .failure .given .1 in
     rw (c .fail3 .ensures, c .before .blame .ensures, c .before .before .before .before .before .before .before .store .ensures .1, stack-push (c .before .before .before .before .before .before .before .before .before .before .before .before), store-failed _ _ _ _ _ failed)
-    (sym (push-blocked _ _ _ _ _ (is-inside (c .before .before .before .before .before .before .before .before .before .before .before .before .before .before .before .before .before .before .before)) (past (c .before .before .before .before .before .before .before .before .before .before .before .before .before .before .before) ∙ c .before .before .before .before .before .before .before .before .before .before .before .before .before .before .if2 .left) (sym (c .before .before .before .before .before .before .before .before .before .before .enabled .ensures) ∙ not-true _ (c .before .before .before .before .before .before .before .before .before .if3 .taken)) _ failed))
+    (sym (push-blocked _ _ _ _ _ _ (is-inside (c .before .before .before .before .before .before .before .before .before .before .before .before .before .before .before .before .before .before .before)) (past (c .before .before .before .before .before .before .before .before .before .before .before .before .before .before .before) ∙ c .before .before .before .before .before .before .before .before .before .before .before .before .before .before .if2 .left) (sym (c .before .before .before .before .before .before .before .before .before .before .pushes-frame .ensures) ∙ not-true _ (c .before .before .before .before .before .before .before .before .before .if3 .taken)) _ failed))
 
 same-length-2 : tie.Need-same-length-2
 same-length-2 c = search needs
@@ -138,7 +138,7 @@ returns-4 c =
       store-done _ _ _ _ ready,
       new-sp (c .before .before .before .before .before .before .before .before .before .before .before .before .before .before),
     )
-    (sym (push-done _ _ _ _ _ (is-inside (c .before .before .before .before .before .before .before .before .before .before .before .before .before .before .before .before .before)) (past (c .before .before .before .before .before .before .before .before .before .before .before .before .before) ∙ c .before .before .before .before .before .before .before .before .before .before .before .before .if2 .left) (sym (c .before .before .before .before .before .before .before .before .enabled .ensures) ∙ not-true _ (c .before .before .before .before .before .before .before .if3 .taken)) ready))
+    (sym (push-done _ _ _ _ _ _ (is-inside (c .before .before .before .before .before .before .before .before .before .before .before .before .before .before .before .before .before)) (past (c .before .before .before .before .before .before .before .before .before .before .before .before .before) ∙ c .before .before .before .before .before .before .before .before .before .before .before .before .if2 .left) (sym (c .before .before .before .before .before .before .before .before .pushes-frame .ensures) ∙ not-true _ (c .before .before .before .before .before .before .before .if3 .taken)) ready))
 
 bytes-requires-2 : tie.Need-bytes-requires-2
 bytes-requires-2 c κs = search needs
@@ -174,7 +174,7 @@ returns-5 : tie.Need-returns-5
 returns-5 c =
     let both = stores (c .before .before .before .before .before .before) in
     let e = none-stored (the-stores (c .before .before .before .before .before .before)) _ (sym (c .before .before .fault3 .given .1) ∙ both .0) in
-    rw (c .fail4 .ensures, both .1, e) (sym (frame-failed _ _ _ _ _ (is-inside (c .before .before .before .before .before .before .before .before .before .before .before .before .before .before .before .before .before .before .before .before .before)) (past (c .before .before .before .before .before .before .before .before .before .before .before .before .before .before .before .before .before) ∙ c .before .before .before .before .before .before .before .before .before .before .before .before .before .before .before .before .if2 .left) (sym (c .before .before .before .before .before .before .before .before .before .before .before .before .enabled .ensures) ∙ not-false _ (c .before .before .before .before .before .before .before .before .before .before .before .if3 .left)) _ e))
+    rw (c .fail4 .ensures, both .1, e) (sym (frame-failed _ _ _ _ _ _ (is-inside (c .before .before .before .before .before .before .before .before .before .before .before .before .before .before .before .before .before .before .before .before .before)) (past (c .before .before .before .before .before .before .before .before .before .before .before .before .before .before .before .before .before) ∙ c .before .before .before .before .before .before .before .before .before .before .before .before .before .before .before .before .if2 .left) (sym (c .before .before .before .before .before .before .before .before .before .before .before .before .pushes-frame .ensures) ∙ not-false _ (c .before .before .before .before .before .before .before .before .before .before .before .if3 .left)) _ e))
 
 same-length-4 : tie.Need-same-length-4
 same-length-4 c = search needs
@@ -183,7 +183,7 @@ returns-6 : tie.Need-returns-6
 returns-6 c =
     let both = stores (c .before .before .before .before .before .before) in
     rw (c .complete2 .ensures, c .before .with-ssp .ensures, c .before .before .before .before .before .before .before .before .before .before .before .before .before .with-sp .ensures, new-sp (c .before .before .before .before .before .before .before .before .before .before .before .before .before .before .before .before .before .before), new-ssp (c .before .before .before .before .before .before .before .before .before), both .1)
-    (sym (frame-done _ _ _ _ _ (is-inside (c .before .before .before .before .before .before .before .before .before .before .before .before .before .before .before .before .before .before .before .before .before)) (past (c .before .before .before .before .before .before .before .before .before .before .before .before .before .before .before .before .before) ∙ c .before .before .before .before .before .before .before .before .before .before .before .before .before .before .before .before .if2 .left) (sym (c .before .before .before .before .before .before .before .before .before .before .before .before .enabled .ensures) ∙ not-false _ (c .before .before .before .before .before .before .before .before .before .before .before .if3 .left)) _ (all-stored (the-stores (c .before .before .before .before .before .before)) _ (sym (c .before .before .enum-told2 .given .1) ∙ both .0))))
+    (sym (frame-done _ _ _ _ _ _ (is-inside (c .before .before .before .before .before .before .before .before .before .before .before .before .before .before .before .before .before .before .before .before .before)) (past (c .before .before .before .before .before .before .before .before .before .before .before .before .before .before .before .before .before) ∙ c .before .before .before .before .before .before .before .before .before .before .before .before .before .before .before .before .if2 .left) (sym (c .before .before .before .before .before .before .before .before .before .before .before .before .pushes-frame .ensures) ∙ not-false _ (c .before .before .before .before .before .before .before .before .before .before .before .if3 .left)) _ (all-stored (the-stores (c .before .before .before .before .before .before)) _ (sym (c .before .before .enum-told2 .given .1) ∙ both .0))))
 
 pub execute-spec : {M : Type 1} → statement M
 execute-spec =
@@ -203,7 +203,7 @@ execute-spec =
     next-requires
     ordinary-requires
     with-sp-requires
-    enabled-requires
+    pushes-frame-requires
     store-requires
     enum-known-failure
     blame-requires

@@ -62,6 +62,9 @@ is-call-requires c κs = search needs
 call-target-requires : tie.Need-call-target-requires
 call-target-requires c κs = search needs
 
+framed-requires : tie.Need-framed-requires
+framed-requires c κs = search needs
+
 execute-requires-5 : tie.Need-execute-requires-5
 execute-requires-5 c κs = search needs
 
@@ -70,7 +73,7 @@ same-length-5 c = search needs
 
 returns-5 : tie.Need-returns-5
 unfolding operationOf operation
-returns-5 c = rw (sym (c .before .before .before .before .before .before .before .before .before .before .before .before .before .before .is-wrss .ensures) ∙ c .before .before .before .before .before .before .before .before .before .before .before .before .before .if1 .left, sym (c .before .before .before .before .before .before .before .before .before .before .before .before .is-incssp .ensures) ∙ c .before .before .before .before .before .before .before .before .before .before .before .if2 .left, ne-eqb _ _ (c .before .before .before .before .before .before .before .before .before .if3 .left), ne-eqb _ _ (c .before .before .before .before .before .before .before .if4 .left), sym (c .before .before .before .before .before .before .is-call .ensures) ∙ c .before .before .before .before .before .if5 .taken, ← c .before .before .before .call-target .ensures) (c .before .before .execute5 .ensures)
+returns-5 c = rw (sym (c .before .before .before .before .before .before .before .before .before .before .before .before .before .before .before .is-wrss .ensures) ∙ c .before .before .before .before .before .before .before .before .before .before .before .before .before .before .if1 .left, sym (c .before .before .before .before .before .before .before .before .before .before .before .before .before .is-incssp .ensures) ∙ c .before .before .before .before .before .before .before .before .before .before .before .before .if2 .left, ne-eqb _ _ (c .before .before .before .before .before .before .before .before .before .before .if3 .left), ne-eqb _ _ (c .before .before .before .before .before .before .before .before .if4 .left), sym (c .before .before .before .before .before .before .before .is-call .ensures) ∙ c .before .before .before .before .before .before .if5 .taken, ← c .before .before .before .before .before .call-target .ensures, ← c .before .before .before .framed .ensures) (c .before .before .execute5 .ensures)
 
 dispatch-from-9-requires : tie.Need-dispatch-from-9-requires
 dispatch-from-9-requires c κs = search needs
@@ -103,6 +106,7 @@ dispatch-spec =
     returns-4
     is-call-requires
     call-target-requires
+    framed-requires
     execute-requires-5
     same-length-5
     returns-5
