@@ -7,6 +7,7 @@
 --     LedgerProof        ledger
 --     RangesProof        stays-in-range, run-stays-in-range
 --     FaultsProof        fault-numbers
+--     NextLineProof      next-line (CALL with displacement 0 does not use the shadow stack)
 --     WorkedProof        worked, worked-returns (the worked cases)
 --     Promised           demand-1, demand-3, promised: all of them
 
@@ -17,6 +18,7 @@ pub mod ListOrderProof
 pub mod LedgerProof
 pub mod RangesProof
 pub mod FaultsProof
+pub mod NextLineProof
 pub mod WorkedProof
 pub mod Promised
 mod Counts
@@ -32,3 +34,4 @@ mod Completions
 mod RangeParts
 mod PointerSums
 mod KeptAlong
+mod OtherKinds
