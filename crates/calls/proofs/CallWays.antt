@@ -1,7 +1,7 @@
 -- The ways through near CALL, each by the tests and stores on it. Assumes nothing.
 use Prim.Native.Nat.{ℕ}
 use mathlib.Core.Path.{_≡_, _∙_, ap}
-use mathlib.Core.Bool.{Bool, true, false, not}
+use mathlib.Core.Bool.{Bool, true, false, not, cond}
 use mathlib.Core.List.{List}
 use Rattle.memory.specs.Access.{byteCount, probe, written}
 use Rattle.memory.specs.Pages.{Lookup}
@@ -9,7 +9,7 @@ use Rattle.memory.specs.declared.access.Access.{Access}
 use Rattle.memory.specs.declared.access.Failure.{Failure}
 use Rattle.memory.specs.declared.access.Reach.the-variants.{Ready, Blocked}
 use Rattle.processor.specs.Answer.{ss, gp}
-use Rattle.processor.specs.State.{minus, next, withSp, withSsp}
+use Rattle.processor.specs.State.{minus, next, withIp, withSp, withSsp}
 use Rattle.processor.specs.Accesses.{shadow, ordinary, blame}
 use Rattle.processor.specs.Outcomes.{completed, faulted, stepOf}
 use Rattle.processor.specs.Prog.{Prog, _>>=_, _>>_, ended, broken, store, storeBoth, onlyIf, interp, operate}
@@ -38,6 +38,10 @@ module _ (look : Lookup) (bytes : List ℕ) (target : ℕ) (framed : Bool) (leng
   abbrev pub shadowPush : Access
   shadowPush = shadow s newSsp (pushed s) true
 
+  -- the state after the call, with a frame or without
+  abbrev called : Bool → State
+  called t = withIp (withSsp (withSp s newSp) (cond t newSsp (s .ssp))) target
+
   pub outside : inCode s target ≡ false → operate look (call target framed length s) s bytes ≡ stepOf (faulted s gp) bytes
   unfolding call
   outside e = faults look _ s bytes gp (halted look bytes (inCode s target) gp _ e)
@@ -65,7 +69,7 @@ module _ (look : Lookup) (bytes : List ℕ) (target : ℕ) (framed : Bool) (leng
             ∙ passed look bytes (not (runsPast s newSp)) ss _ (ap not fits)
             ∙ stored look bytes stackPush (next s length) _ e
             ∙ skipped look _ (pushesFrame s framed) _ _ off
-            ∙ rw off)
+            ∙ ap (λ (t : Bool). ended (called t) (written look stackPush (next s length) bytes)) off)
 
       module _ (on : pushesFrame s framed ≡ true) where
         pub frame-failed : (fault : Fault) → interp look (storeBoth stackPush (next s length) shadowPush (next s length)) bytes ≡ broken fault
@@ -87,4 +91,4 @@ module _ (look : Lookup) (bytes : List ℕ) (target : ℕ) (framed : Bool) (leng
             ∙ passed look bytes (not (runsPast s newSp)) ss _ (ap not fits)
             ∙ two-stores look bytes stackPush (next s length) (pushesFrame s framed) shadowPush (next s length) _ on
             ∙ continues look _ (storeBoth stackPush (next s length) shadowPush (next s length)) bytes tt after e
-            ∙ rw on)
+            ∙ ap (λ (t : Bool). ended (called t) after) on)
