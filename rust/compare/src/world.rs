@@ -266,10 +266,10 @@ impl World {
     /// A shadow stack pointer.
     fn choose_ssp(&self, dice: &mut Dice) -> u64 {
         let page = dice.one_of(&self.shadow);
-        match dice.below(13) {
-            0 | 1 => self.near_shadow(dice, 4),
-            2 => page + (PAGE_BYTES - 8),
-            3 => self.useless_ssp(dice),
+        match dice.below(25) {
+            0..4 => self.near_shadow(dice, 4),
+            4 | 5 => page + (PAGE_BYTES - 8),
+            6 => self.useless_ssp(dice),
             _ => {
                 let steps = dice.between(4, PAGE_BYTES / 8 - 8);
                 page + 8 * steps + dice.one_of(&[0, 0, 4])
