@@ -354,13 +354,15 @@ impl Machine<'_> {
         Ok(())
     }
 
-    fn call(&mut self, next: u64, target: u64) -> Result<(), Stop> {
+    /// `has_frame` is false for a relative call of the next line, which has nothing to do with the
+    /// shadow stack.
+    fn call(&mut self, next: u64, target: u64, has_frame: bool) -> Result<(), Stop> {
         let state = self.state;
         let size = state.return_size();
         ensure(state.is_target(target), GP)?;
         let sp = state.minus(state.sp, size as u64);
         let ordinary = self.ordinary(sp, size)?;
-        if state.is_enabled() {
+        if state.is_enabled() && has_frame {
             let ssp = state.minus(state.ssp, size as u64);
             let shadow = self.shadow(ssp, size)?;
             self.store(&shadow, next);
@@ -406,7 +408,8 @@ impl Machine<'_> {
             4 => self.saveprevssp()?,
             5 => self.wrss(4, a, b)?,
             6 => self.wrss(8, a, b)?,
-            7 | 8 => self.call(next, ip)?,
+            7 => self.call(next, ip, a != 0)?,
+            8 => self.call(next, ip, true)?,
             9 | 10 => ip = self.ret(a)?,
             11 => self.wruss(4, a, b)?,
             _ => self.wruss(8, a, b)?,

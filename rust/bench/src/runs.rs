@@ -199,9 +199,10 @@ impl Writer {
         self.ssp += size * range;
     }
 
-    /// A call to anywhere in the code.
+    /// A call to anywhere in the code. A displacement of 0 is seldom drawn; it leaves SSP alone.
     fn call(&mut self) {
         let target = CODE + self.random.below(CODE_SIZE);
+        let mut frame = self.slot();
         if self.random.below(2) == 0 {
             self.push(8, target, 0);
         } else {
@@ -210,10 +211,13 @@ impl Writer {
             let displacement = target.wrapping_sub(self.ip) & 0xFFFF_FFFF;
             let operand = self.words.len() - 2;
             self.words[operand] = displacement;
+            if displacement == 0 {
+                frame = 0;
+            }
         }
         self.ip = target;
         self.sp -= self.slot();
-        self.ssp -= self.slot();
+        self.ssp -= frame;
     }
 
     fn can_call(&self) -> bool {

@@ -279,3 +279,71 @@ impl Scene {
         self.memory.load(&access).unwrap_or(0)
     }
 }
+
+#[cfg(test)]
+mod tests {
+    use super::*;
+    use crate::case::is_enabled;
+    use std::collections::BTreeMap;
+
+    /// How many runs are looked at.
+    const RUNS: u64 = 20_000;
+
+    /// A call of the next line while enabled: its mode and code, whether there
+    /// is room for a frame, and whether it completes.
+    type Sort = (u64, u64, bool, bool);
+
+    /// The sort of an instruction, if it has one.
+    fn sort(state: &State, memory: &Memory, words: [u64; 4]) -> Option<Sort> {
+        let [code, length, a, _] = words;
+        let fields = state.fields();
+        let next = state.next(length);
+        if !is_enabled(&fields) || ![(7, 0), (8, next)].contains(&(code, a)) {
+            return None;
+        }
+        let ends = |words| {
+            let outcome = step(state, words, &mut memory.clone());
+            matches!(outcome, Outcome::Completed(_))
+        };
+        let room = ends([8, length, next, 0]);
+        Some((fields[field::MODE], code, room, ends(words)))
+    }
+
+    /// Counts the sorts of a run.
+    fn count(case: &Case, counts: &mut BTreeMap<Sort, u64>) {
+        let fields = case.state[..].try_into().expect("ten fields");
+        let mut state = State::read(fields).expect("a good state");
+        let mut memory = Memory::new(&case.pages, case.bytes.clone()).expect("a good list");
+        for &words in case.words.as_chunks().0 {
+            if let Some(sort) = sort(&state, &memory, words) {
+                *counts.entry(sort).or_default() += 1;
+            }
+            match step(&state, words, &mut memory) {
+                Outcome::Completed(after) => state = after,
+                _ => return,
+            }
+        }
+    }
+
+    #[test]
+    fn the_next_line_is_called_in_all_ways() {
+        let mut counts = BTreeMap::new();
+        for number in 0..RUNS {
+            count(&Author::numbered(9, number).good_case(), &mut counts);
+        }
+        for mode in [1, 2] {
+            for (code, room, completes) in [
+                (7, true, true),
+                (7, false, true),
+                (7, false, false),
+                (8, true, true),
+                (8, false, false),
+            ] {
+                let sort = (mode, code, room, completes);
+                let times = counts.get(&sort).copied().unwrap_or(0);
+                assert!(times > RUNS / 2_000, "{sort:?}: {times}");
+            }
+            assert_eq!(counts.get(&(mode, 8, false, true)), None);
+        }
+    }
+}

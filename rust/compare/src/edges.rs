@@ -201,7 +201,8 @@ fn called(name: &str, case: Case, target: u64, size: u64) -> Row {
 }
 
 /// Mode 1 calls to the code limit and one above; calls beside the hole; calls
-/// at the ends of the displacement and to the next instruction.
+/// at the ends of the displacement and to the next instruction or beside it. Of
+/// calls of the next line there are more in a module of their own.
 fn targets() -> Vec<Row> {
     let fault = |name, case| Row::ends(name, case, Answer::fault(GP));
     let below = 0x0000_7fff_ffff_ffff;
@@ -222,7 +223,8 @@ fn targets() -> Vec<Row> {
         called("farthest down", call(2, 7, 0x8000_0000), down, 8),
         called("back to itself", call(1, 7, 0xffff_fffb), 0x40_0000, 4),
         called("absolute, to Next", call(2, 8, 0x40_0005), 0x40_0005, 8),
-        called("relative, to Next", call(2, 7, 0), 0x40_0005, 8),
+        called("one past Next", call(2, 7, 1), 0x40_0006, 8),
+        called("one short of Next", call(1, 7, 0xffff_ffff), 0x40_0004, 4),
     ]
 }
 

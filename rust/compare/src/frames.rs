@@ -61,11 +61,15 @@ impl Play<'_> {
     fn call(&mut self, dice: &mut Dice) {
         let length = dice.between(1, 15);
         let words = if dice.once_in(2) {
-            [7, length, dice.below(0x1000), 0]
+            [7, length, dice.between(1, 0xfff), 0]
         } else {
             [8, length, dice.below(0x40_0000), 0]
         };
         self.take(words, self.size().wrapping_neg());
+        if dice.once_in(20) {
+            // Its address is on top of the ordinary stack alone.
+            self.take([7, length, 0, 0], 0);
+        }
     }
 
     /// A return. Where the stacks need not match any more, bytes are dropped

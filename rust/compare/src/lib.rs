@@ -10,10 +10,11 @@
 //! * [`difference`]: two sightings side by side, and only what differs.
 //! * [`damage`]: ways to spoil an input so that it is refused.
 //! * [`rows`]: cases with what must come of them, written out by hand.
-//! * [`worked`]: the worked cases P1 to P13 of the rules.
+//! * [`worked`]: the worked cases P1 to P15 of the rules.
 //! * [`worked_returns`]: those of RET and WRUSS, R1 to R17.
 //! * [`edges`]: limits of lists, lengths, pointers and targets.
 //! * [`tokens`]: tokens that are just right and just wrong.
+//! * [`calls_of_next`]: calls of the next line, relative and absolute.
 //! * [`returns`]: near RET, and what it is given by calls.
 //! * [`user_writes`]: WRUSS, who may and which pages it reaches.
 //! * [`page_ends`]: loads and stores around the end of a page.
@@ -33,6 +34,7 @@
 
 pub mod answer;
 pub mod author;
+pub mod calls_of_next;
 pub mod case;
 pub mod damage;
 pub mod difference;

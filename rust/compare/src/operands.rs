@@ -44,12 +44,15 @@ pub fn propose_token(dice: &mut Dice, world: &World, state: &[u64]) -> Vec<[u64;
 
 /// Finds length and operands for a code.
 fn fill(dice: &mut Dice, world: &World, state: &[u64], code: u64) -> [u64; 4] {
+    let length = dice.between(1, 15);
+    let next = world.cut(state[field::IP].wrapping_add(length));
     let (mut a, mut b) = match code {
         1 | 2 => (0, count(dice, state, 4 * code)),
         3 => (restore_address(dice, world, state), 0),
         4 => (0, 0),
         5 | 6 => write(dice, world, state, 4 * (code - 4)),
         7 => (displacement(dice, world, state), 0),
+        8 if dice.once_in(8) => (next, 0),
         8 => (target(dice, world), 0),
         9 => (0, 0),
         10 => (byte_count(dice), 0),
@@ -59,7 +62,7 @@ fn fill(dice: &mut Dice, world: &World, state: &[u64], code: u64) -> [u64; 4] {
         a %= FOUR_GIB;
         b %= FOUR_GIB;
     }
-    [code, dice.between(1, 15), a, b]
+    [code, length, a, b]
 }
 
 /// A code. Those that can't complete are chosen seldom outside mode 0.

@@ -134,7 +134,8 @@ pub fn more_rights(part: Part, case: &Case, bits: [u64; 2]) -> Result<Kind, Stri
 }
 
 /// What an instruction that completes pops off the shadow stack, less what it
-/// pushes, told by its words and by the state that it starts from.
+/// pushes, told by its words and by the state that it starts from. A relative
+/// call of the next line pushes nothing.
 fn popped(words: &[u64], state: &[u64]) -> i128 {
     let wide = state[field::MODE] == 2;
     let gap = state[field::FLAGS] % 2 == 1 && !wide;
@@ -144,6 +145,7 @@ fn popped(words: &[u64], state: &[u64]) -> i128 {
         4 if gap => 12,
         4 => 8,
         7..=10 if !is_enabled(state) => 0,
+        7 if words[2] == 0 => 0,
         7 | 8 if wide => -8,
         7 | 8 => -4,
         9 | 10 if wide => 8,

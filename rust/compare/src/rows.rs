@@ -79,7 +79,8 @@ impl Row {
         let mut wanted = Seen::answered(&case, count, &answer);
         let lengths = case.words.iter().skip(1).step_by(WORDS);
         if let Some(ip) = wanted.state.get_mut(field::IP) {
-            *ip += lengths.take(count as usize).sum::<u64>();
+            let grown: u64 = lengths.take(count as usize).sum();
+            *ip = ip.wrapping_add(grown);
         }
         Row {
             name: name.into(),

@@ -1,4 +1,4 @@
-//! The worked cases P1 to P13 of the rules, with the numbers that they name.
+//! The worked cases P1 to P15 of the rules, with the numbers that they name.
 
 use crate::answer::{Answer, GP, UD};
 use crate::case::{Case, field};
@@ -36,6 +36,7 @@ pub fn rows() -> Vec<Row> {
         writes(),
         calls(),
         narrow(),
+        calls_of_next(),
     ]
     .concat()
 }
@@ -163,5 +164,19 @@ fn narrow() -> Vec<Row> {
         Row::completes("P13", case)
             .field(field::SSP, 0x2fec)
             .bytes::<8>(0x1fe8, 0x1ff0),
+    ]
+}
+
+/// P14 and P15: the next line, called in either way.
+fn calls_of_next() -> Vec<Row> {
+    let called = |row: Row| row.field(field::SP, 0x5008).bytes::<8>(0x5008, 0x40_0005);
+    let relative = plain(&[[7, 5, 0, 0]]);
+    let absolute = plain(&[[8, 5, 0x40_0005, 0]]);
+    vec![
+        called(Row::completes("P14", relative)).field(field::IP, 0x40_0005),
+        called(Row::completes("P15", absolute))
+            .field(field::IP, 0x40_0005)
+            .field(field::SSP, 0x1fe8)
+            .bytes::<8>(0x1fe8, 0x40_0005),
     ]
 }

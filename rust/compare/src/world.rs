@@ -266,14 +266,24 @@ impl World {
     /// A shadow stack pointer.
     fn choose_ssp(&self, dice: &mut Dice) -> u64 {
         let page = dice.one_of(&self.shadow);
-        match dice.below(12) {
-            0 | 1 => self.near_shadow(dice, 4),
-            2 => page + (PAGE_BYTES - 8),
+        match dice.below(25) {
+            0..4 => self.near_shadow(dice, 4),
+            4 | 5 => page + (PAGE_BYTES - 8),
+            6 => self.useless_ssp(dice),
             _ => {
                 let steps = dice.between(4, PAGE_BYTES / 8 - 8);
                 page + 8 * steps + dice.one_of(&[0, 0, 4])
             }
         }
+    }
+
+    /// A shadow stack pointer below which nothing can be pushed.
+    fn useless_ssp(&self, dice: &mut Dice) -> u64 {
+        let inside = dice.one_of(&self.ordinary) + PAGE_BYTES / 2;
+        let start = dice.one_of(&self.shadow);
+        let hole = dice.one_of(&[HOLE + 4, HOLE + PAGE_BYTES, ABOVE_HOLE]);
+        let ssp = dice.one_of(&[inside, start, hole, 0]);
+        self.cut(ssp + dice.one_of(&[0, 4]))
     }
 
     /// An address on or close to a page of the shadow stacks, a multiple of

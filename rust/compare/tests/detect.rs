@@ -3,8 +3,8 @@
 use driftpocket_compare::case::field;
 use driftpocket_compare::page_ends::layout::MIDDLES;
 use driftpocket_compare::rows::{Row, check_all, check_each};
-use driftpocket_compare::{edges, page_ends, refusals, returns, rounds, tokens, user_writes};
-use driftpocket_compare::{worked, worked_returns};
+use driftpocket_compare::{calls_of_next, edges, page_ends, refusals, returns, rounds, tokens};
+use driftpocket_compare::{user_writes, worked, worked_returns};
 use std::collections::BTreeSet;
 use wrong::searches::{self, Search};
 
@@ -51,6 +51,7 @@ fn fixed_cases_notice_every_wrong_part() {
         worked_returns::rows(),
         edges::rows(),
         tokens::rows(),
+        calls_of_next::rows(),
         returns::rows(),
         user_writes::rows(),
         refusals::rows(),
@@ -77,6 +78,28 @@ fn the_worked_cases_alone_notice_the_poor_parts() {
             check_all(wrong::named(name), &worked::rows()).is_err(),
             "{name}"
         );
+    }
+}
+
+#[test]
+fn p14_and_p15_alone_notice_known_mistakes() {
+    let mut rows = worked::rows();
+    rows.retain(|row| ["P14", "P15"].contains(&&row.name[..]));
+    for name in [
+        "pushes for every call",
+        "spares absolute calls of the next line",
+        "moves SSP without a push",
+        "spares the ordinary stack too",
+    ] {
+        assert!(check_all(wrong::named(name), &rows).is_err(), "{name}");
+    }
+}
+
+#[test]
+fn calls_of_the_next_line_notice_all_mistakes_about_them() {
+    let rows = calls_of_next::rows();
+    for (name, part) in wrong::CALLS_OF_NEXT {
+        assert!(check_all(*part, &rows).is_err(), "{name}");
     }
 }
 
@@ -134,6 +157,9 @@ fn the_ledger_and_single_steps_notice_wrong_sums_and_idling() {
         ("drops one element fewer", "the ledger says"),
         ("uses nine bits of the count", "the ledger says"),
         ("leaves the shadow stack", "the ledger says"),
+        ("pushes for every call", "the ledger says"),
+        ("moves SSP without a push", "the ledger says"),
+        ("spares absolute calls of the next line", "the ledger says"),
         ("idles after one", "one by one"),
         ("counts one too many", ""),
     ] {
@@ -149,6 +175,9 @@ fn the_ends_of_pages_alone_notice_every_wrong_search() {
     }
     for name in [
         "leaves the ordinary push",
+        "pushes for every call",
+        "tries the shadow stack for the next line",
+        "spares absolute calls of the next line",
         "loses the hole",
         "names the page",
         "sorts the pages",
@@ -167,20 +196,22 @@ struct Spot {
     mode: u64,
     cpl: u64,
     code: u64,
-    /// Whether SAVEPREVSSP finds the carry flag set.
-    carry: bool,
+    /// Whether it has accesses of its own: SAVEPREVSSP that finds the carry flag
+    /// set, and a relative call of the next line.
+    special: bool,
     /// How many accesses the operation makes before this one.
     turn: u64,
 }
 
-/// The operations: mode, code, carry flag, and how many accesses.
-const OPERATIONS: [(u64, u64, bool, u64); 23] = [
+/// The operations: mode, code, whether special, and how many accesses.
+const OPERATIONS: [(u64, u64, bool, u64); 25] = [
     (1, 1, false, 2),
     (1, 3, false, 2),
     (1, 4, false, 3),
     (1, 4, true, 4),
     (1, 5, false, 1),
     (1, 7, false, 2),
+    (1, 7, true, 1),
     (1, 8, false, 2),
     (1, 9, false, 2),
     (1, 10, false, 2),
@@ -193,6 +224,7 @@ const OPERATIONS: [(u64, u64, bool, u64); 23] = [
     (2, 5, false, 1),
     (2, 6, false, 1),
     (2, 7, false, 2),
+    (2, 7, true, 1),
     (2, 8, false, 2),
     (2, 9, false, 2),
     (2, 10, false, 2),
@@ -204,14 +236,14 @@ impl Spot {
     /// All of them. WRUSS makes its access at CPL 0 alone.
     fn all() -> BTreeSet<Spot> {
         let mut all = BTreeSet::new();
-        for (mode, code, carry, count) in OPERATIONS {
+        for (mode, code, special, count) in OPERATIONS {
             let levels: &[u64] = if code > 10 { &[0] } else { &[0, 3] };
             for &cpl in levels {
                 all.extend((0..count).map(|turn| Spot {
                     mode,
                     cpl,
                     code,
-                    carry,
+                    special,
                     turn,
                 }));
             }
@@ -221,10 +253,13 @@ impl Spot {
 
     /// Whether a row is about its operation.
     fn is_of(&self, row: &Row) -> bool {
-        let state = &row.case.state;
-        let carry = state[field::FLAGS] % 2 == 1;
-        let of = (state[field::MODE], state[field::CPL], row.case.words[0]);
-        (self.mode, self.cpl, self.code) == of && self.carry == carry
+        let (state, words) = (&row.case.state, &row.case.words);
+        let special = match words[0] {
+            7 => words[2] == 0,
+            _ => state[field::FLAGS] % 2 == 1,
+        };
+        let of = (state[field::MODE], state[field::CPL], words[0]);
+        (self.mode, self.cpl, self.code) == of && self.special == special
     }
 }
 
@@ -250,7 +285,7 @@ fn every_access_of_every_operation_is_watched() {
     });
     // What INCSSP loads is not looked at, nor a token if the carry flag is bad.
     watch(&searches::MISSING_A_BYTE, "missing a byte", |spot| {
-        matches!(spot.code, 1 | 2) || (spot.mode, spot.carry) == (2, true)
+        matches!(spot.code, 1 | 2) || (spot.mode, spot.code, spot.special) == (2, 4, true)
     });
     // RSTORSSP stores where it has loaded.
     let cannot_fault = |spot: &Spot| (spot.code, spot.turn) == (3, 1);

@@ -2,7 +2,8 @@
 //! and by the library it is the same.
 
 use driftpocket_compare::rows::{Row, check_all};
-use driftpocket_compare::{edges, refusals, returns, tokens, user_writes, worked, worked_returns};
+use driftpocket_compare::{calls_of_next, edges, refusals, returns, tokens, user_writes};
+use driftpocket_compare::{worked, worked_returns};
 
 /// Checks rows, of which there must be so many at least.
 fn check(rows: &[Row], least: usize) {
@@ -24,8 +25,8 @@ fn name_all(rows: &[Row], letter: char, last: u64) {
 #[test]
 fn worked_cases() {
     let rows = worked::rows();
-    check(&rows, 19);
-    name_all(&rows, 'P', 13);
+    check(&rows, 21);
+    name_all(&rows, 'P', 15);
 }
 
 #[test]
@@ -37,12 +38,17 @@ fn worked_cases_of_returns_and_user_writes() {
 
 #[test]
 fn edges_of_lists_lengths_pointers_and_targets() {
-    check(&edges::rows(), 78);
+    check(&edges::rows(), 79);
 }
 
 #[test]
 fn tokens_just_right_and_just_wrong() {
     check(&tokens::rows(), 47);
+}
+
+#[test]
+fn calls_of_the_next_line() {
+    check(&calls_of_next::rows(), 828);
 }
 
 #[test]

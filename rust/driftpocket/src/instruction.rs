@@ -73,13 +73,14 @@ impl Instruction {
         Instruction::new(code::WRSSQ, length, address, value)
     }
 
-    /// CALL, so far from the next instruction, up or down.
+    /// CALL, so far from the next instruction, up or down. With 0 the shadow
+    /// stack is not accessed.
     pub fn call_relative(length: u64, displacement: i32) -> Instruction {
         let word = u64::from(displacement.cast_unsigned());
         Instruction::new(code::CALL_RELATIVE, length, word, 0)
     }
 
-    /// CALL to this address.
+    /// CALL to this address, be it that of the next instruction.
     pub fn call_absolute(length: u64, target: u64) -> Instruction {
         Instruction::new(code::CALL_ABSOLUTE, length, target, 0)
     }
@@ -138,6 +139,12 @@ impl Instruction {
             code::WRUSSQ => "WRUSSQ",
             _ => "unknown",
         }
+    }
+
+    /// Whether this, if it is a call, leaves a frame on the shadow stack where
+    /// one is enabled: every call does but a relative one with displacement 0.
+    pub fn leaves_frame(&self) -> bool {
+        (self.code, self.a) != (code::CALL_RELATIVE, 0)
     }
 
     /// The displacement of a relative call, if A can hold one.
@@ -226,6 +233,7 @@ mod tests {
             (Instruction::saveprevssp(4), "SAVEPREVSSP"),
             (Instruction::wrssd(6, 0x2ff4, 7), "WRSSD 0x7 to 0x2ff4"),
             (Instruction::wrssq(6, 0x2ff8, 7), "WRSSQ 0x7 to 0x2ff8"),
+            (Instruction::call_relative(5, 0), "CALL relative +0x0"),
             (Instruction::call_relative(5, 16), "CALL relative +0x10"),
             (Instruction::call_relative(5, -16), "CALL relative -0x10"),
             (

@@ -58,7 +58,8 @@
 //!
 //! # A return address that was overwritten
 //!
-//! A call puts its return address on both stacks, and a return compares them.
+//! A call puts its return address on both stacks, and a return compares them. Only
+//! a relative call of the next instruction leaves the shadow stack alone.
 //!
 //! ```
 //! use driftpocket::{Instruction, Kind, PageError, PageList, Size, State, run};

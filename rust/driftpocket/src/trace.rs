@@ -87,7 +87,9 @@ pub fn of(instruction: &Instruction, state: &State, pages: &PageList) -> Option<
         code::SAVEPREVSSP => list.saveprevssp()?,
         code::WRSSD => list.store(Stack::Shadow, Size::Four, instruction.a, instruction.b),
         code::WRSSQ => list.store(Stack::Shadow, Size::Eight, instruction.a, instruction.b),
-        code::CALL_RELATIVE | code::CALL_ABSOLUTE => list.call(state.next(instruction.length)),
+        code::CALL_RELATIVE | code::CALL_ABSOLUTE => {
+            list.call(state.next(instruction.length), instruction.leaves_frame());
+        }
         code::RET | code::RET_COUNT => list.ret()?,
         code::WRUSSD => list.store(Stack::UserShadow, Size::Four, instruction.a, instruction.b),
         code::WRUSSQ => list.store(Stack::UserShadow, Size::Eight, instruction.a, instruction.b),
@@ -171,13 +173,13 @@ impl List<'_> {
         Some(())
     }
 
-    /// CALL: the return address, on the ordinary stack and, if enabled, on the
-    /// shadow stack.
-    fn call(&mut self, next: u64) {
+    /// CALL: the return address, on the ordinary stack and, if enabled, as a
+    /// frame on the shadow stack, unless the call leaves none.
+    fn call(&mut self, next: u64, frame: bool) {
         let size = return_size(self.state);
         let below = |pointer: u64| pointer.wrapping_sub(size.bytes());
         self.store(Stack::Ordinary, size, below(self.state.sp), next);
-        if self.state.is_enabled() {
+        if self.state.is_enabled() && frame {
             self.store(Stack::Shadow, size, below(self.state.ssp), next);
         }
     }
@@ -347,6 +349,19 @@ mod tests {
         let write = Instruction::wrssd(6, 0x2ff4, 0x1_0000_0007);
         let written = texts(write, &enabled, &pages());
         assert_eq!(written, ["store 0x7, 4 bytes, to shadow 0x2ff4"]);
+    }
+
+    #[test]
+    fn calls_of_the_next_line() {
+        let relative = Instruction::call_relative(5, 0);
+        let absolute = Instruction::call_absolute(5, 0x40_0005);
+        let ordinary = "store 0x400005, 8 bytes, to ordinary 0x5008";
+        let shadow = "store 0x400005, 8 bytes, to shadow 0x1fe8";
+        let enabled = state(2, 0x1ff0);
+        assert_eq!(texts(relative, &enabled, &pages()), [ordinary]);
+        assert_eq!(texts(absolute, &enabled, &pages()), [ordinary, shadow]);
+        let narrow = texts(relative, &state(1, 0x1ff0), &pages());
+        assert_eq!(narrow, ["store 0x400005, 4 bytes, to ordinary 0x500c"]);
     }
 
     #[test]

@@ -47,7 +47,10 @@ impl Dice {
             1 => Instruction::saveprevssp(length),
             2 | 3 => Instruction::rstorssp(length, address & !7),
             4 => Instruction::wrssd(length, address, value),
-            5 => Instruction::call_relative(length, value as i32 % 0x1000),
+            5 => {
+                let by = value as i32 % 0x1000;
+                Instruction::call_relative(length, self.pick(&[by, by, 0]))
+            }
             6 => Instruction::call_absolute(length, value),
             7 | 8 => Instruction::ret(length),
             9 | 10 => Instruction::ret_count(length, self.pick(&[0, 8, 0x1000, u16::MAX])),

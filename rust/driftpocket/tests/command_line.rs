@@ -67,7 +67,7 @@ fn the_worked_cases() {
         };
         assert!(text.lines().any(title), "{name}");
     }
-    assert!(text.ends_with("40 runs replayed; 40 of them agree with the run as a whole\n"));
+    assert!(text.ends_with("42 runs replayed; 42 of them agree with the run as a whole\n"));
 }
 
 #[test]

@@ -63,6 +63,16 @@ enum Target {
     Absolute(u64),
 }
 
+impl Target {
+    /// Whether a call there leaves a frame on the shadow stack. A relative call
+    /// of the next line is how code asks for its own address: that is taken off
+    /// the ordinary stack, and no return ever comes for it. What counts is how
+    /// the call is written, not where it goes.
+    fn leaves_a_frame(self) -> bool {
+        self != Target::Relative(0)
+    }
+}
+
 impl Instruction {
     /// Reads code, length, A and B in a mode. Nothing comes back if they break
     /// their form, which is refusal 6.
@@ -295,20 +305,21 @@ impl Machine<'_> {
         self.store_shadow(Part::Value, size, at, value)
     }
 
-    /// Near CALL.
+    /// Near CALL. Without a frame to leave, the shadow stack is not even looked
+    /// at, and SSP may point anywhere.
     fn call(&mut self, target: Target) -> Result<(), Fault> {
         let next = self.state.ip;
-        let target = match target {
+        let address = match target {
             Target::Absolute(address) => address,
             Target::Relative(by) => self.state.mode.width().reduce(i128::from(next) + by),
         };
-        self.check_target(target)?;
+        self.check_target(address)?;
         let size = self.return_size();
         self.push_ordinary(size, next)?;
-        if self.state.is_enabled() {
+        if self.state.is_enabled() && target.leaves_a_frame() {
             self.push_shadow(size, next)?;
         }
-        self.state.ip = target;
+        self.state.ip = address;
         Ok(())
     }
 

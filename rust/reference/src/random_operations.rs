@@ -6,6 +6,7 @@
 //! from what the operation needs, close to an edge, and then mostly breaks one
 //! of these needs or none. The same seed always gives the same lines.
 
+mod calls_of_next;
 mod returns;
 mod user_writes;
 
@@ -269,14 +270,15 @@ impl Author {
 
     /// Plays one scene.
     fn play_scene(&mut self) {
-        match self.dice.below(18) {
+        match self.dice.below(20) {
             0 | 1 => self.increment_scene(),
             2 | 3 => self.restore_scene(),
             4..=7 => self.save_scene(),
             8 => self.write_scene(),
             9..=11 => self.call_scene(),
             12..=15 => self.return_scene(),
-            _ => self.user_write_scene(),
+            16 | 17 => self.user_write_scene(),
+            _ => self.next_call_scene(),
         }
     }
 

@@ -236,6 +236,7 @@ fn zero_bytes(length: u64) -> Vec<u8> {
 }
 
 /// What the script works on.
+#[derive(Clone)]
 pub(crate) struct Desk {
     /// The memory of the last page list, or the reason why that list was sent
     /// back.

@@ -350,6 +350,65 @@ fn displacements_are_signed() {
 }
 
 #[test]
+fn p14_and_p15_call_the_next_line() {
+    let start = Scene::new(0x1FF0).with(IP, 0x40_0000).with(SP, 0x5010);
+    let relative = start
+        .clone()
+        .with(SP, 0x5008)
+        .holding_word(0x5008, 0x40_0005);
+    start.leads_to(&[[7, 5, 0, 0]], &relative);
+    let absolute = relative.with(SSP, 0x1FE8).holding_word(0x1FE8, 0x40_0005);
+    start.leads_to(&[[8, 5, 0x40_0005, 0]], &absolute);
+}
+
+/// With displacement 0 SSP may point anywhere; the absolute call to the same place looks there.
+#[test]
+fn calls_of_the_next_line_and_where_ssp_points() {
+    let start = |mode| {
+        let scene = Scene::new(0).with(MODE, mode).with(IP, 0x40_0000);
+        scene.with(SP, 0x5010).with(CODE_LIMIT, 0x40_0005)
+    };
+    let called = [
+        start(1).with(SP, 0x500C).holding(0x500C, [5, 0, 0x40, 0]),
+        start(2).with(SP, 0x5008).holding_word(0x5008, 0x40_0005),
+    ];
+    for (mode, ssp, absolute) in [
+        (1, 0x9000, page_fault(0x8FFC)),
+        (1, 0x5010, page_fault(0x500C)),
+        (1, 0, page_fault(0xFFFF_FFFC)),
+        (2, 0x9000, page_fault(0x8FF8)),
+        (2, 4, page_fault(0xFFFF_FFFF_FFFF_FFFC)),
+        (2, 1 << 47, page_fault((1 << 47) - 8)),
+        (2, (1 << 47) + 4, GP),
+        (2, !0 << 47, GP),
+    ] {
+        let lost = start(mode).with(SSP, ssp);
+        let after = called[mode as usize - 1].clone().with(SSP, ssp);
+        lost.leads_to(&[[7, 5, 0, 0]], &after);
+        lost.faults([8, 5, 0x40_0005, 0], absolute);
+    }
+}
+
+/// What spoils a call before it comes to the shadow stack spoils one with displacement 0 too.
+#[test]
+fn calls_of_the_next_line_still_fault() {
+    let call = [7, 5, 0, 0];
+    let start = Scene::new(0x9000).with(IP, 0x40_0000).with(SP, 0x5010);
+    start.clone().with(MODE, 1).faults(call, GP);
+    start.clone().with(IP, (1 << 47) - 5).faults(call, GP);
+    start.clone().with(SP, (1 << 47) + 1).faults(call, SS);
+    start
+        .clone()
+        .with(SP, 0x6001)
+        .faults(call, page_fault(0x6000));
+    // No frame is left for a return, which finds other bytes or no page.
+    let (report, _) = start.clone().with(SSP, 0x1FF0).run(&[call, RET]);
+    assert_eq!(report, [1, 0, 21, 1, 0]);
+    let (report, _) = start.run(&[call, RET]);
+    assert_eq!(report, [1, 0, 14, 0, 0x9000]);
+}
+
+#[test]
 fn p13_save_in_mode_1() {
     let start = Scene::new(0x2FE0)
         .with(MODE, 1)

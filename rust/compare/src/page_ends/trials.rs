@@ -39,6 +39,7 @@ pub fn at(mode: u64, cpl: u64, at: u64) -> Vec<Trial> {
         spot.writes(),
         spot.user_writes(),
         spot.calls(),
+        spot.calls_of_next(),
         spot.returns(),
     ]
     .concat()
@@ -331,19 +332,25 @@ impl Spot {
         self.sizes().iter().map(write).collect()
     }
 
-    /// CALL in both forms, the push at the spot being the ordinary one or that
-    /// on the shadow stack. A relative call of mode 2 needs a Next close to
-    /// where code may lie.
-    fn calls(self) -> Vec<Trial> {
-        let absolute = ([8, LENGTH, 0x1234, 0], self.value(), 0x1234);
-        let next = if self.mode == 1 {
+    /// A Next at which code may lie, with bytes that are all different.
+    fn next(self) -> u64 {
+        if self.mode == 1 {
             NARROW
         } else {
             0xffff_9876_5432_1043
-        };
+        }
+    }
+
+    /// CALL in both forms, the push at the spot being the ordinary one or that
+    /// on the shadow stack. A relative call of mode 2, and one of the next line,
+    /// needs a Next close to where code may lie.
+    fn calls(self) -> Vec<Trial> {
+        let absolute = ([8, LENGTH, 0x1234, 0], self.value(), 0x1234);
+        let next = self.next();
+        let of_next = ([8, LENGTH, next, 0], next, next);
         let relative = ([7, LENGTH, 0x10, 0], next, next + 0x10);
         let mut trials = Vec::new();
-        for (words, next, target) in [absolute, relative] {
+        for (words, next, target) in [absolute, of_next, relative] {
             let call = |sp, ssp| {
                 self.frames(words, sp, ssp, Deed::Store(next))
                     .with(field::IP, next - LENGTH)
@@ -356,6 +363,32 @@ impl Spot {
             trials.extend(self.on_either_stack(call));
         }
         trials
+    }
+
+    /// CALL with displacement 0, which pushes on the ordinary stack alone. The
+    /// push is made at the spot; or else one on the shadow stack would be, and
+    /// then the pages beside the end are not looked at.
+    fn calls_of_next(self) -> Vec<Trial> {
+        let next = self.next();
+        let words = [7, LENGTH, 0, 0];
+        let call = |sp, ssp| {
+            self.trial(&format!("{words:x?} with {sp:x} below {ssp:x}"), words)
+                .with(field::IP, next - LENGTH)
+                .with(field::SP, self.after(sp))
+                .with(field::SSP, ssp)
+                .touches(ORDINARY, sp, self.size(), Deed::Store(next))
+                .sets(field::SP, sp)
+        };
+        let pushed = |ssp| Trial {
+            kind: ORDINARY,
+            ..call(self.at, ssp)
+        };
+        let above = self.after(self.at);
+        vec![
+            pushed(SAFE_SHADOW + 0x808),
+            pushed(above),
+            call(SAFE_ORDINARY + 0x808, above),
+        ]
     }
 
     /// RET in both forms, the pop at the spot being the ordinary one or that

@@ -1,9 +1,10 @@
 //! Parts that are wrong on purpose, each in one thing.
 //!
 //! Most of them call the library and then spoil what it did, either after the
-//! whole run or after each single instruction. Those that are wrong about RET
-//! and about WRUSS have files of their own. So have those that look for bytes
-//! in a wrong way, which are made from the second program.
+//! whole run or after each single instruction. Those that are wrong about calls
+//! of the next line, about RET and about WRUSS have files of their own. So have
+//! those that look for bytes in a wrong way, which are made from the second
+//! program.
 
 use driftpocket::run_raw as right;
 use driftpocket_compare::answer::{CP, FAULT, GP, PF};
@@ -33,9 +34,12 @@ macro_rules! wrong_step {
     };
 }
 
+mod calls_of_next;
 mod returns;
 pub mod searches;
 mod user_writes;
+
+pub use calls_of_next::ALL as CALLS_OF_NEXT;
 
 /// A single instruction that was carried out rightly.
 struct Step<'run> {
@@ -409,9 +413,15 @@ type Named = (&'static str, Part);
 
 /// All of them with their names.
 pub fn all() -> impl Iterator<Item = Named> {
-    [COMMON, returns::ALL, user_writes::ALL, searches::ALL]
-        .concat()
-        .into_iter()
+    [
+        COMMON,
+        CALLS_OF_NEXT,
+        returns::ALL,
+        user_writes::ALL,
+        searches::ALL,
+    ]
+    .concat()
+    .into_iter()
 }
 
 /// Those of this file.

@@ -1,6 +1,8 @@
 //! Tests of single steps: the worked ones P1 to P13 first. Those of RET and
-//! WRUSS have files of their own, R1 to R17 among them.
+//! WRUSS have files of their own, R1 to R17 among them, and so have calls of the
+//! next line, P14 and P15.
 
+mod calls_of_next;
 mod near_return;
 mod user_write;
 mod worked_returns;
@@ -719,7 +721,7 @@ fn narrow_caller() -> Bench {
 #[test]
 fn displacements_have_a_sign() {
     for (displacement, narrow, wide) in [
-        (0, 0x40_0005, 0x40_0005),
+        (1, 0x40_0006, 0x40_0006),
         (0x7fff_ffff, 0x8040_0004, 0x8040_0004),
         (0x8000_0000, 0x8040_0005, 0xffff_ffff_8040_0005),
         (0xffff_ffff, 0x40_0004, 0x40_0004),

@@ -3,6 +3,7 @@
 use super::*;
 use crate::fault::{Fault, Part};
 use crate::operations::Outcome;
+use crate::processor::State;
 use crate::script::{self, Attempt, Command, Desk, LONGEST_INPUT, read_command};
 use std::collections::BTreeMap;
 
@@ -22,8 +23,11 @@ fn sorts(desk: &mut Desk, line: &str) -> Vec<String> {
         Err(_) => vec!["malformed".to_string()],
         Ok(Command::Do(words)) => {
             let before = desk.state();
+            let next = next_call_sort(desk, words);
             let attempt = desk.attempt(words);
-            operation_sorts(words[0], before, attempt)
+            let end = next.map(|sort| format!("{sort}: {}", short(attempt)));
+            let sorts = operation_sorts(words[0], before, attempt);
+            sorts.into_iter().chain(end).collect()
         }
         Ok(command) => {
             let answer = desk.answer(&command);
@@ -63,6 +67,50 @@ fn operation_sorts(code: u64, before: [u64; 10], attempt: Attempt) -> Vec<String
         }
     }
 }
+
+/// Of a call of the next line with shadow stacks enabled: how it is written, and
+/// what a push on the shadow stack would come to. An absolute call, which
+/// pushes, tells. Nothing is said where it does not come so far.
+fn next_call_sort(desk: &Desk, words: [u64; 4]) -> Option<String> {
+    let [code, length, a, _] = words;
+    let state = State::read(desk.state())?;
+    let next = state.next(length);
+    let calls_next = [(7, 0), (8, next)].contains(&(code, a));
+    if !calls_next || !state.is_enabled() {
+        return None;
+    }
+    let push = match desk.clone().attempt([8, length, next, 0]) {
+        Attempt::Tried(Outcome::Completed(_)) => "room",
+        Attempt::Tried(Outcome::Faulted(Fault::Page(Part::ShadowPush, _))) => "no page",
+        Attempt::Tried(Outcome::Faulted(Fault::ShadowNotCanonical(_))) => "not canonical",
+        Attempt::Tried(Outcome::Faulted(_)) => "stopped before",
+        _ => return None,
+    };
+    let mode = desk.state()[0];
+    Some(format!("next line by {code}, mode {mode}, {push}"))
+}
+
+/// What came of a `do` line in a word.
+fn short(attempt: Attempt) -> &'static str {
+    match attempt {
+        Attempt::Tried(Outcome::Completed(_)) => "completed",
+        Attempt::Tried(Outcome::Faulted(_)) => "faulted",
+        _ => "refused",
+    }
+}
+
+/// The calls of the next line that must come up: by which code, in which modes,
+/// what a push would come to, and the end.
+const WANTED_CALLS_OF_NEXT: [(u64, &[u64], &str, &str); 8] = [
+    (7, &[1, 2], "room", "completed"),
+    (7, &[1, 2], "no page", "completed"),
+    (7, &[2], "not canonical", "completed"),
+    (7, &[1, 2], "stopped before", "faulted"),
+    (8, &[1, 2], "room", "completed"),
+    (8, &[1, 2], "no page", "faulted"),
+    (8, &[2], "not canonical", "faulted"),
+    (8, &[1, 2], "stopped before", "faulted"),
+];
 
 /// How often each sort of line comes up in a script.
 fn count_sorts(seed: u64, counts: &mut BTreeMap<String, u64>) {
@@ -283,6 +331,16 @@ fn need_completions(counts: &BTreeMap<String, u64>) {
     }
 }
 
+/// Makes sure that the next line was called in all ways.
+fn need_calls_of_next(counts: &BTreeMap<String, u64>) {
+    for (code, modes, push, end) in WANTED_CALLS_OF_NEXT {
+        for (code, mode) in pairs(&[code], modes) {
+            let sort = format!("next line by {code}, mode {mode}, {push}: {end}");
+            need(counts, &sort, 30);
+        }
+    }
+}
+
 #[test]
 fn every_sort_of_answer_comes_up() {
     let mut counts = BTreeMap::new();
@@ -294,6 +352,7 @@ fn every_sort_of_answer_comes_up() {
     }
     need_faults(&counts);
     need_completions(&counts);
+    need_calls_of_next(&counts);
     for code in 1..=12 {
         need(&counts, &format!("do {code}: refusal 6"), 10);
     }

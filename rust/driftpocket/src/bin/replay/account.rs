@@ -1,4 +1,5 @@
-//! What a RET or a WRUSS did, or why it faulted, in words for a person.
+//! What a RET or a WRUSS did, or why it faulted, in words for a person, and why a
+//! CALL left no frame.
 //!
 //! This judges nothing. Whether an instruction completed is the library's word.
 
@@ -10,6 +11,7 @@ use driftpocket::{Answer, PageList};
 /// operations, and none of what was sent back.
 pub fn of(step: &Step, pages: &PageList) -> Vec<String> {
     match (step.instruction.mnemonic(), step.answer) {
+        ("CALL", Answer::Completed) if step.before.is_enabled() => no_frame(step),
         ("RET", Answer::Completed) => vec![compared(step), moved(step)],
         ("WRUSSD" | "WRUSSQ", Answer::Completed) => {
             let cpl = step.before.cpl;
@@ -23,6 +25,14 @@ pub fn of(step: &Step, pages: &PageList) -> Vec<String> {
             line.into_iter().collect()
         }
         _ => Vec::new(),
+    }
+}
+
+/// That a CALL left no frame where others do, if so.
+fn no_frame(step: &Step) -> Vec<String> {
+    match step.instruction.leaves_frame() {
+        true => Vec::new(),
+        false => vec!["no frame: with displacement 0 the shadow stack is not accessed".to_string()],
     }
 }
 
@@ -115,6 +125,18 @@ mod tests {
             counted[1],
             "popped: SP moves up by 24 bytes (16 of them by the count), SSP by 8"
         );
+    }
+
+    #[test]
+    fn calls_of_the_next_line() {
+        let mut one = run(Instruction::call_relative(5, 0));
+        let wanted = "no frame: with displacement 0 the shadow stack is not accessed";
+        assert_eq!(account(&one), [wanted]);
+        one.state.ssp = 1 << 47;
+        assert_eq!(account(&one), [wanted]);
+        one.state.ucet = 0;
+        assert!(account(&one).is_empty());
+        assert!(account(&run(Instruction::call_absolute(5, 5))).is_empty());
     }
 
     #[test]

@@ -15,17 +15,18 @@ usage: replay FILE             replay the run sheet in this file
                                carriage returns that a spreadsheet leaves at
                                the ends of lines, and say whether it is a sheet;
                                send it to another file than FILE
-       replay --worked         replay the worked cases of the rules, P1 to P13
+       replay --worked         replay the worked cases of the rules, P1 to P15
                                and R1 to R17
        replay --help           this text
 
 For a sheet it shows the state, the pages and what they hold, and then each
 instruction with its operands, SSP and IP before and after, and every load and
-store with address, size and value. Of RET it says what was compared, and of RET
-and WRUSS why they faulted. Four lines close it: how many instructions
-completed, the answer in numbers, the answer in words, and the state after the
-last completed instruction as a line of a sheet. Numbers with 0x are
-hexadecimal, those of a sheet too, all others decimal.
+store with address, size and value. Of RET it says what was compared, of RET and
+WRUSS why they faulted, and of CALL where it leaves no frame on an enabled
+shadow stack. Four lines close it: how many instructions completed, the answer
+in numbers, the answer in words, and the state after the last completed
+instruction as a line of a sheet. Numbers with 0x are hexadecimal, those of a
+sheet too, all others decimal.
 
 A text that is no sheet to the byte is not replayed. The program names the
 refusal, the line, what stands there and what was expected, on standard error.

@@ -1,4 +1,4 @@
-//! The worked cases of the rules as runs: P1 to P13 here, R1 to R17 in
+//! The worked cases of the rules as runs: P1 to P15 here, R1 to R17 in
 //! `returns`.
 //!
 //! Where the rules leave a number open, it is chosen so that more can be seen:
@@ -23,6 +23,7 @@ pub fn runs() -> Result<Vec<Run>, PageError> {
         writes(),
         calls(),
         narrow(),
+        calls_of_next(),
         returns::cases(),
     ]
     .into_iter()
@@ -232,6 +233,25 @@ fn narrow() -> Vec<Case> {
     )]
 }
 
+/// P14 and P15. Something stands where a frame goes.
+fn calls_of_next() -> Vec<Case> {
+    let below = (0x1fe8, Size::Eight, 0x1122_3344_5566_7788);
+    vec![
+        case(
+            "P14. CALL with displacement 0 leaves the shadow stack alone: SSP and its bytes stay.",
+            user(0x1ff0),
+            &[below],
+            &[Instruction::call_relative(5, 0)],
+        ),
+        case(
+            "P15. CALL absolute to the same next instruction pushes on both stacks.",
+            user(0x1ff0),
+            &[below],
+            &[Instruction::call_absolute(5, 0x40_0005)],
+        ),
+    ]
+}
+
 #[cfg(test)]
 mod tests {
     use super::*;
@@ -240,7 +260,7 @@ mod tests {
     use std::path::Path;
 
     /// The stored sheets of the runs, in their order.
-    const SHEETS: [&str; 40] = [
+    const SHEETS: [&str; 42] = [
         "p01",
         "p02",
         "p03-first",
@@ -257,6 +277,8 @@ mod tests {
         "p11",
         "p12",
         "p13",
+        "p14",
+        "p15",
         "r01",
         "r02",
         "r03",
@@ -283,9 +305,9 @@ mod tests {
         "r17-third",
     ];
 
-    /// What the rules say of each run up to P13: its outcome, and SSP, IP and
+    /// What the rules say of each run up to P15: its outcome, and SSP, IP and
     /// RFLAGS after it.
-    const ENDS: [(&str, u64, u64, u64); 16] = [
+    const ENDS: [(&str, u64, u64, u64); 18] = [
         ("1 completed", 0x1ff8, 0x40_0005, 0),
         ("0 completed, then #PF at 0x3000", 0x3000, 0x40_0000, 0),
         ("1 completed", 0x3000, 0x40_0005, 0),
@@ -307,11 +329,16 @@ mod tests {
         ("0 completed, then #GP(0)", 0x1ff0, 0x40_0000, 0),
         ("0 completed, then #PF at 0xffc", 0x1004, 0x40_0000, 0),
         ("1 completed", 0x2fec, 0x40_0004, 1),
+        ("1 completed", 0x1ff0, 0x40_0005, 0),
+        ("1 completed", 0x1fe8, 0x40_0005, 0),
     ];
+
+    /// The runs in which SP moves: by a call that completes.
+    const CALLED: [&str; 3] = ["P10.", "P14.", "P15."];
 
     /// The numbers in memory after the runs that store: the case, then address,
     /// size, value.
-    const STORED: [(usize, u64, Size, u64); 12] = [
+    const STORED: [(usize, u64, Size, u64); 16] = [
         (4, 0x2ff0, Size::Eight, 0x1ff3),
         (5, 0x2ff0, Size::Eight, 0x1ff3),
         (5, 0x1fe8, Size::Eight, 0x1ff1),
@@ -324,6 +351,10 @@ mod tests {
         (12, 0x1fe8, Size::Eight, 0x40_0005),
         (14, 0x5008, Size::Eight, 0x5555_6666),
         (15, 0x1fe8, Size::Eight, 0x1ff0),
+        (16, 0x5008, Size::Eight, 0x40_0005),
+        (16, 0x1fe8, Size::Eight, 0x1122_3344_5566_7788),
+        (17, 0x5008, Size::Eight, 0x40_0005),
+        (17, 0x1fe8, Size::Eight, 0x40_0005),
     ];
 
     #[test]
@@ -334,7 +365,8 @@ mod tests {
             let before = one.state;
             let outcome = run(&mut one.state, &mut one.pages, &one.instructions);
             assert_eq!(outcome.to_string(), text, "{}", one.title);
-            let sp = before.sp - if one.title.starts_with("P10.") { 8 } else { 0 };
+            let called = CALLED.iter().any(|name| one.title.starts_with(name));
+            let sp = before.sp - if called { 8 } else { 0 };
             let after = State {
                 ssp,
                 ip,
@@ -356,6 +388,17 @@ mod tests {
             let one = &runs[number];
             let stored = one.pages.read(address, size);
             assert_eq!(stored, Some(value), "{} {address:#x}", one.title);
+        }
+    }
+
+    #[test]
+    fn p14_changes_no_byte_of_the_shadow_pages() {
+        let mut one = runs().unwrap().swap_remove(16);
+        let before = one.pages.clone();
+        run(&mut one.state, &mut one.pages, &one.instructions);
+        for address in (0x1000..0x3000).step_by(8) {
+            let [old, new] = [&before, &one.pages].map(|pages| pages.read(address, Size::Eight));
+            assert_eq!(old, new, "{address:#x}");
         }
     }
 
