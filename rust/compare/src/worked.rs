@@ -1,4 +1,4 @@
-//! The worked cases P1 to P15 of the rules, with the numbers that they name.
+//! The worked cases P1 to P18 of the rules, with the numbers that they name.
 
 use crate::answer::{Answer, GP, UD};
 use crate::case::{Case, field};
@@ -37,6 +37,7 @@ pub fn rows() -> Vec<Row> {
         calls(),
         narrow(),
         calls_of_next(),
+        calls_of_next_with_no_room(),
     ]
     .concat()
 }
@@ -179,4 +180,30 @@ fn calls_of_next() -> Vec<Row> {
             .field(field::SSP, 0x1fe8)
             .bytes::<8>(0x1fe8, 0x40_0005),
     ]
+}
+
+/// P16 to P18: the same where a frame could not be pushed.
+fn calls_of_next_with_no_room() -> Vec<Row> {
+    let pages = Answer::page_fault(0xffc);
+    [
+        (["P16, relative", "P16, absolute"], 2, 0x1004, pages),
+        (
+            ["P17, relative", "P17, absolute"],
+            2,
+            0x8000_0000_0008,
+            Answer::fault(GP),
+        ),
+        (["P18, relative", "P18, absolute"], 1, 0x1000, pages),
+    ]
+    .into_iter()
+    .flat_map(|([relative, absolute], mode, ssp, fault)| {
+        let case = |instruction| from(ssp, &[instruction]).with(field::MODE, mode);
+        let done = Row::completes(relative, case([7, 5, 0, 0])).field(field::IP, 0x40_0005);
+        let done = match mode {
+            2 => done.field(field::SP, 0x5008).bytes::<8>(0x5008, 0x40_0005),
+            _ => done.field(field::SP, 0x500c).bytes::<4>(0x500c, 0x40_0005),
+        };
+        [done, Row::ends(absolute, case([8, 5, 0x40_0005, 0]), fault)]
+    })
+    .collect()
 }

@@ -1,4 +1,4 @@
-//! The worked cases of the rules as runs: P1 to P15 here, R1 to R17 in
+//! The worked cases of the rules as runs: P1 to P18 here, R1 to R17 in
 //! `returns`.
 //!
 //! Where the rules leave a number open, it is chosen so that more can be seen:
@@ -24,6 +24,7 @@ pub fn runs() -> Result<Vec<Run>, PageError> {
         calls(),
         narrow(),
         calls_of_next(),
+        calls_of_next_with_no_room(),
         returns::cases(),
     ]
     .into_iter()
@@ -252,6 +253,54 @@ fn calls_of_next() -> Vec<Case> {
     ]
 }
 
+/// P16 to P18: the same where a frame could not be pushed.
+fn calls_of_next_with_no_room() -> Vec<Case> {
+    let relative = Instruction::call_relative(5, 0);
+    let absolute = Instruction::call_absolute(5, 0x40_0005);
+    let narrow = State {
+        mode: 1,
+        ..user(0x1000)
+    };
+    vec![
+        case(
+            "P16, first part. CALL with displacement 0 where the page for a frame is missing: it completes.",
+            user(0x1004),
+            &[],
+            &[relative],
+        ),
+        case(
+            "P16, second part. CALL absolute to the next instruction from there: #PF at 0xffc.",
+            user(0x1004),
+            &[],
+            &[absolute],
+        ),
+        case(
+            "P17, first part. CALL with displacement 0 where a frame would not be canonical: it completes.",
+            user(0x8000_0000_0008),
+            &[],
+            &[relative],
+        ),
+        case(
+            "P17, second part. CALL absolute to the next instruction from there: #GP(0).",
+            user(0x8000_0000_0008),
+            &[],
+            &[absolute],
+        ),
+        case(
+            "P18, first part. P16 in mode 1, where 4 bytes are pushed: it completes.",
+            narrow,
+            &[],
+            &[relative],
+        ),
+        case(
+            "P18, second part. CALL absolute to the next instruction from there: #PF at 0xffc.",
+            narrow,
+            &[],
+            &[absolute],
+        ),
+    ]
+}
+
 #[cfg(test)]
 mod tests {
     use super::*;
@@ -260,7 +309,7 @@ mod tests {
     use std::path::Path;
 
     /// The stored sheets of the runs, in their order.
-    const SHEETS: [&str; 42] = [
+    const SHEETS: [&str; 48] = [
         "p01",
         "p02",
         "p03-first",
@@ -279,6 +328,12 @@ mod tests {
         "p13",
         "p14",
         "p15",
+        "p16-first",
+        "p16-second",
+        "p17-first",
+        "p17-second",
+        "p18-first",
+        "p18-second",
         "r01",
         "r02",
         "r03",
@@ -305,9 +360,9 @@ mod tests {
         "r17-third",
     ];
 
-    /// What the rules say of each run up to P15: its outcome, and SSP, IP and
+    /// What the rules say of each run up to P18: its outcome, and SSP, IP and
     /// RFLAGS after it.
-    const ENDS: [(&str, u64, u64, u64); 18] = [
+    const ENDS: [(&str, u64, u64, u64); 24] = [
         ("1 completed", 0x1ff8, 0x40_0005, 0),
         ("0 completed, then #PF at 0x3000", 0x3000, 0x40_0000, 0),
         ("1 completed", 0x3000, 0x40_0005, 0),
@@ -331,14 +386,27 @@ mod tests {
         ("1 completed", 0x2fec, 0x40_0004, 1),
         ("1 completed", 0x1ff0, 0x40_0005, 0),
         ("1 completed", 0x1fe8, 0x40_0005, 0),
+        ("1 completed", 0x1004, 0x40_0005, 0),
+        ("0 completed, then #PF at 0xffc", 0x1004, 0x40_0000, 0),
+        ("1 completed", 0x8000_0000_0008, 0x40_0005, 0),
+        ("0 completed, then #GP(0)", 0x8000_0000_0008, 0x40_0000, 0),
+        ("1 completed", 0x1000, 0x40_0005, 0),
+        ("0 completed, then #PF at 0xffc", 0x1000, 0x40_0000, 0),
     ];
 
-    /// The runs in which SP moves: by a call that completes.
-    const CALLED: [&str; 3] = ["P10.", "P14.", "P15."];
+    /// The runs in which SP moves, and how far: by a call that completes.
+    const CALLED: [(&str, u64); 6] = [
+        ("P10.", 8),
+        ("P14.", 8),
+        ("P15.", 8),
+        ("P16, first part.", 8),
+        ("P17, first part.", 8),
+        ("P18, first part.", 4),
+    ];
 
     /// The numbers in memory after the runs that store: the case, then address,
     /// size, value.
-    const STORED: [(usize, u64, Size, u64); 16] = [
+    const STORED: [(usize, u64, Size, u64); 22] = [
         (4, 0x2ff0, Size::Eight, 0x1ff3),
         (5, 0x2ff0, Size::Eight, 0x1ff3),
         (5, 0x1fe8, Size::Eight, 0x1ff1),
@@ -355,6 +423,12 @@ mod tests {
         (16, 0x1fe8, Size::Eight, 0x1122_3344_5566_7788),
         (17, 0x5008, Size::Eight, 0x40_0005),
         (17, 0x1fe8, Size::Eight, 0x40_0005),
+        (18, 0x5008, Size::Eight, 0x40_0005),
+        (19, 0x5008, Size::Eight, 0),
+        (20, 0x5008, Size::Eight, 0x40_0005),
+        (21, 0x5008, Size::Eight, 0),
+        (22, 0x5008, Size::Eight, 0x40_0005 << 32),
+        (23, 0x5008, Size::Eight, 0),
     ];
 
     #[test]
@@ -365,8 +439,8 @@ mod tests {
             let before = one.state;
             let outcome = run(&mut one.state, &mut one.pages, &one.instructions);
             assert_eq!(outcome.to_string(), text, "{}", one.title);
-            let called = CALLED.iter().any(|name| one.title.starts_with(name));
-            let sp = before.sp - if called { 8 } else { 0 };
+            let called = CALLED.iter().find(|(name, _)| one.title.starts_with(name));
+            let sp = before.sp - called.map_or(0, |(_, size)| *size);
             let after = State {
                 ssp,
                 ip,
