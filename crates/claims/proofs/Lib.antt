@@ -7,7 +7,7 @@
 --     LedgerProof        ledger
 --     RangesProof        stays-in-range, run-stays-in-range
 --     FaultsProof        fault-numbers
---     NextLineProof      next-line (CALL with displacement 0 does not use the shadow stack)
+--     NextLineProof      same-next-line, next-line-untouched (CALL with displacement 0 does not use the shadow stack)
 --     WorkedProof        worked, worked-returns (the worked cases)
 --     Promised           demand-1, demand-3, promised: all of them
 

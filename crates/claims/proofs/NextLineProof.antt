@@ -2,10 +2,12 @@
 use Prim.Native.Nat.{ℕ}
 use mathlib.Core.Bool.{Bool, true, false, not, cond, _&&_}
 use mathlib.Core.List.{List}
-use mathlib.Core.Path.{_≡_, refl, sym, _∙_, ap}
+use mathlib.Core.Path.{_≡_, refl, ap}
 use lib.Dec.{eqb}
+use lib.ListN.{length as count}
 use lib.IntN.{ℤ, pos, negsuc}
 use Rattle.memory.specs.Access.{byteCount, probe, written}
+use Rattle.memory.specs.Extends.{Places, cell}
 use Rattle.memory.specs.Pages.{Lookup}
 use Rattle.memory.specs.declared.access.Access.{Access}
 use Rattle.memory.specs.declared.access.Reach.{Reach}
@@ -22,8 +24,8 @@ use Rattle.replay.specs.Permission.{hidden, shown}
 use Rattle.replay.specs.Exec.{operationOf, exec, refused, perform}
 use Rattle.replay.specs.Codes.{target, framed, operation, codes}
 use Rattle.replay.specs.declared.instruction.Instruction.{Instruction}
-use Rattle.claims.specs.NextLine.{SameOrdinary, withShadow, NextLine}
-use Rattle.claims.proofs.OtherKinds.{stores, same-store}
+use Rattle.claims.specs.NextLine.{isOrdinary, SameOrdinary, withShadow, SameNextLine, NextLineUntouched}
+use Rattle.claims.proofs.OtherKinds.{tried-alike, kept-elsewhere}
 
 -- a call that makes no frame: one push, and nothing else
 abbrev unframed : ℕ → ℕ → State → Prog State
@@ -56,54 +58,87 @@ is-plain : (i : Instruction) (s : State) → i .code ≡ 7 → i .a ≡ 0 → ex
 unfolding exec operationOf operation oneOf framed displaced displacement
 is-plain i s code a = rw (code, a) (ap (λ (p : Prog State). p >>= (λ t. done (shown s t))) (no-frame _ (i .length) (hidden s)))
 
--- a step whose state has another CR4.CET and another SSP
-abbrev shifted : ℕ → ℕ → Step → Step
-shifted cet ssp r = record { answer = r .answer; state = withShadow (r .state) cet ssp; bytes = r .bytes }
+-- ---- the push
 
-module _ (first second : Lookup) (same : SameOrdinary first second) (to length : ℕ) (s : State) (bytes : List ℕ) (cet ssp : ℕ) where
+-- SP after it, and the access
+abbrev newSp : State → ℕ
+newSp s = minus (hidden s) (s .sp) (byteCount (pushed (hidden s)))
+
+abbrev push : State → Access
+push s = ordinary (hidden s) (newSp s) (pushed (hidden s)) true
+
+-- what is done by the two tests' outcomes, with the push and the pointers of s, from a state that may have another CR4.CET and SSP
+abbrev byTests : Bool → Bool → ℕ → ℕ → State → State → Prog State
+byTests b c to length s from =
+    (unless b gp >> (unless c ss >> (store (push s) (next (hidden s) length) >> done (withIp (withSp (hidden from) (newSp s)) to)))) >>= (λ t. done (shown from t))
+
+-- ---- the answer and the registers
+
+module _ (look₁ look₂ : Lookup) (same : SameOrdinary look₁ look₂) (to length : ℕ) (s : State) (bytes₁ bytes₂ : List ℕ) (cet ssp : ℕ) where
   abbrev other : State
   other = withShadow s cet ssp
 
-  -- the push, and the state after it
-  abbrev sp : ℕ
-  sp = minus (hidden s) (s .sp) (byteCount (pushed (hidden s)))
-
-  abbrev push : Access
-  push = ordinary (hidden s) sp (pushed (hidden s)) true
-
   abbrev after : State → State
-  after from = shown from (withIp (withSp (hidden from) sp) to)
+  after from = shown from (withIp (withSp (hidden from) (newSp s)) to)
 
-  pushed-alike : settle other bytes (stores push (after other) (next (hidden s) length) bytes second) ≡ shifted cet ssp (settle s bytes (stores push (after s) (next (hidden s) length) bytes first))
+  -- the same answer, and the same registers but for CR4.CET and SSP
+  abbrev Alike : Step → Step → Type 0
+  Alike r₁ r₂ = (r₂ .answer ≡ r₁ .answer) × (r₂ .state ≡ withShadow (r₁ .state) cet ssp)
+
+  -- by what trying the push finds, whatever is left of the bytes
+  pushed-alike : (left₁ left₂ : List ℕ)
+      → Alike (settle s bytes₁ (onReach (push s) (probe look₁ (push s)) (ended (after s) left₁))) (settle other bytes₂ (onReach (push s) (probe look₂ (push s)) (ended (after other) left₂)))
   unfolding hidden shown
-  pushed-alike = ap (settle other bytes) (sym (same-store (hidden s) sp (pushed (hidden s)) (after other) (next (hidden s) length) bytes first second same)) ∙ by (probe first push)
+  pushed-alike left₁ left₂ = rw (← tried-alike (hidden s) (newSp s) (pushed (hidden s)) (ended (after other) left₂) look₁ look₂ same) (by (probe look₁ (push s)))
     where
-      by : (r : Reach) → settle other bytes (onReach push r (ended (after other) (written first push (next (hidden s) length) bytes)))
-          ≡ shifted cet ssp (settle s bytes (onReach push r (ended (after s) (written first push (next (hidden s) length) bytes))))
-      by Ready = refl
-      by (Blocked failure) = refl
+      by : (r : Reach) → Alike (settle s bytes₁ (onReach (push s) r (ended (after s) left₁))) (settle other bytes₂ (onReach (push s) r (ended (after other) left₂)))
+      by Ready = (refl, refl)
+      by (Blocked failure) = (refl, refl)
 
-  plain-alike : operate second (plain to length other) other bytes ≡ shifted cet ssp (operate first (plain to length s) s bytes)
+  plain-alike : Alike (operate look₁ (plain to length s) s bytes₁) (operate look₂ (plain to length other) other bytes₂)
   unfolding operate interp _>>=_ hidden shown next plus minus inCode runsPast
-  plain-alike = go (inCode (hidden s) to) (not (runsPast (hidden s) sp))
+  plain-alike = go (inCode (hidden s) to) (not (runsPast (hidden s) (newSp s)))
     where
-      over : Bool → Bool → Lookup → State → Result State
-      over b c look from =
-          interp look ((unless b gp >> (unless c ss >> (store push (next (hidden s) length) >> done (withIp (withSp (hidden from) sp) to)))) >>= (λ t. done (shown from t))) bytes
+      go : (b c : Bool) → Alike (settle s bytes₁ (interp look₁ (byTests b c to length s s) bytes₁)) (settle other bytes₂ (interp look₂ (byTests b c to length s other) bytes₂))
+      go false c = (refl, refl)
+      go true false = (refl, refl)
+      go true true = pushed-alike _ _
 
-      go : (b c : Bool) → settle other bytes (over b c second other) ≡ shifted cet ssp (settle s bytes (over b c first s))
-      go false c = refl
-      go true false = refl
-      go true true = pushed-alike
-
-pub next-line : NextLine
+pub same-next-line : SameNextLine
 unfolding perform hidden
-next-line first second same i s bytes cet ssp code a =
+same-next-line look₁ look₂ same i s bytes₁ bytes₂ cet ssp code a =
     rw (is-plain i s code a, is-plain i (withShadow s cet ssp) code a, target-alike i s cet ssp) (go (wellFormed i (s .mode)))
   where
-    run : Lookup → State → Step
-    run look from = operate look (plain (target i (hidden s)) (i .length) from) from bytes
+    one : Lookup → State → List ℕ → Bool → Step
+    one look from bytes t = cond t (operate look (plain (target i (hidden s)) (i .length) from) from bytes) (refused BadForm from bytes)
 
-    go : (t : Bool) → cond t (run second (withShadow s cet ssp)) (refused BadForm (withShadow s cet ssp) bytes) ≡ shifted cet ssp (cond t (run first s) (refused BadForm s bytes))
-    go true = plain-alike first second same (target i (hidden s)) (i .length) s bytes cet ssp
+    go : (t : Bool) → (one look₂ (withShadow s cet ssp) bytes₂ t .answer ≡ one look₁ s bytes₁ t .answer) × (one look₂ (withShadow s cet ssp) bytes₂ t .state ≡ withShadow (one look₁ s bytes₁ t .state) cet ssp)
+    go true = plain-alike look₁ look₂ same (target i (hidden s)) (i .length) s bytes₁ bytes₂ cet ssp
+    go false = (refl, refl)
+
+-- ---- the bytes
+
+module _ (look : Lookup) (to length : ℕ) (s : State) (bytes : List ℕ) (places : Places look (count bytes)) (address : ℕ) (off : isOrdinary (look address) ≡ false) where
+  abbrev Kept : Step → Type 0
+  Kept r = cell look (r .bytes) address ≡ cell look bytes address
+
+  plain-kept : Kept (operate look (plain to length s) s bytes)
+  unfolding operate interp _>>=_ hidden
+  plain-kept = go (inCode (hidden s) to) (not (runsPast (hidden s) (newSp s)))
+    where
+      by : (r : Reach) (after : State) → probe look (push s) ≡ r → Kept (settle s bytes (onReach (push s) r (ended after (written look (push s) (next (hidden s) length) bytes))))
+      by Ready after e = kept-elsewhere look bytes places (hidden s) (newSp s) (pushed (hidden s)) (next (hidden s) length) address e off
+      by (Blocked failure) after e = refl
+
+      go : (b c : Bool) → Kept (settle s bytes (interp look (byTests b c to length s s) bytes))
+      go false c = refl
+      go true false = refl
+      go true true = by (probe look (push s)) _ refl
+
+pub next-line-untouched : NextLineUntouched
+unfolding perform hidden
+next-line-untouched look i s bytes places code a address off = rw (is-plain i s code a) (go (wellFormed i (s .mode)))
+  where
+    go : (t : Bool) → cell look (cond t (operate look (plain (target i (hidden s)) (i .length) s) s bytes) (refused BadForm s bytes) .bytes) address ≡ cell look bytes address
+    go true = plain-kept look (target i (hidden s)) (i .length) s bytes places address off
     go false = refl

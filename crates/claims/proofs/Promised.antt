@@ -7,7 +7,7 @@ use Rattle.claims.proofs.ListOrderProof.{order-free}
 use Rattle.claims.proofs.LedgerProof.{ledger}
 use Rattle.claims.proofs.RangesProof.{stays-in-range, run-stays-in-range}
 use Rattle.claims.proofs.FaultsProof.{fault-numbers}
-use Rattle.claims.proofs.NextLineProof.{next-line}
+use Rattle.claims.proofs.NextLineProof.{same-next-line, next-line-untouched}
 use Rattle.claims.proofs.WorkedProof.{worked, worked-returns}
 
 pub demand-1 : Demand1
@@ -32,7 +32,8 @@ promised = record {
   stays-in-range = stays-in-range;
   run-stays-in-range = run-stays-in-range;
   fault-numbers = fault-numbers;
-  next-line = next-line;
+  same-next-line = same-next-line;
+  next-line-untouched = next-line-untouched;
   worked = worked;
   worked-returns = worked-returns;
 }

@@ -1,10 +1,12 @@
--- A relative CALL with displacement 0, the call of the next line, does not use the shadow stack (docs/RULES.md, "The operations", near
--- CALL). Assumes nothing.
+-- CALL of the next instruction by displacement 0 (the papers call it the next line) does not use the shadow stack (docs/RULES.md, "The
+-- operations", near CALL). Assumes nothing.
 use Prim.Native.Nat.{ℕ}
 use mathlib.Core.Path.{_≡_}
-use mathlib.Core.Bool.{cond}
+use mathlib.Core.Bool.{Bool, false}
 use mathlib.Core.List.{List}
 use lib.Dec.{eqb}
+use lib.ListN.{length}
+use Rattle.memory.specs.Extends.{Places, cell}
 use Rattle.memory.specs.Pages.{Lookup}
 use Rattle.memory.specs.declared.pages.Spot.{Spot}
 use Rattle.memory.specs.declared.pages.Spot.the-variants.{Unlisted, At}
@@ -14,23 +16,30 @@ use Rattle.replay.specs.Exec.{perform}
 use Rattle.replay.specs.Codes.{codes}
 use Rattle.replay.specs.declared.instruction.Instruction.{Instruction}
 
--- where an address leads if pages of other kinds than 3 were not listed
-abbrev pub ordinarySpot : Spot → Spot
-ordinarySpot Unlisted = Unlisted
-ordinarySpot (At kind place) = cond (eqb kind 3) (At kind place) Unlisted
+-- an address leads to an ordinary page
+abbrev pub isOrdinary : Spot → Bool
+isOrdinary Unlisted = false
+isOrdinary (At kind place) = eqb kind 3
 
--- the same ordinary pages; a shadow page of one may be missing or of another kind in the other
+-- The ordinary pages have the same addresses. Where they stand in a list and what they hold is free; a shadow page of one may be missing
+-- in the other, or be of the other shadow kind.
 abbrev pub SameOrdinary : Lookup → Lookup → Type 0
-SameOrdinary first second = (address : ℕ) → ordinarySpot (first address) ≡ ordinarySpot (second address)
+SameOrdinary look₁ look₂ = (address : ℕ) → isOrdinary (look₁ address) ≡ isOrdinary (look₂ address)
 
 -- the state with another CR4.CET and another SSP
 abbrev pub withShadow : State → ℕ → ℕ → State
 withShadow s cet ssp = record { mode = s .mode; cpl = s .cpl; cet = cet; ucet = s .ucet; scet = s .scet; ip = s .ip; sp = s .sp; ssp = ssp; flags = s .flags; limit = s .limit }
 
--- Code 7 with A 0 does the same whatever the shadow pages are, wherever SSP stands, and with CR4.CET 0, where no call uses the shadow stack:
--- same answer and bytes, and the same registers but for CR4.CET and SSP, which stay.
-abbrev pub NextLine : Type 0
-NextLine = (first second : Lookup) → SameOrdinary first second
-    → (i : Instruction) (s : State) (bytes : List ℕ) (cet ssp : ℕ) → i .code ≡ 7 → i .a ≡ 0
-    → let r : Step = perform codes first i s bytes in
-    perform codes second i (withShadow s cet ssp) bytes ≡ record { answer = r .answer; state = withShadow (r .state) cet ssp; bytes = r .bytes }
+-- Code 7 with A 0, over two memories with the same ordinary pages, and from two states that differ at most in CR4.CET and SSP: the answer is
+-- the same, and so are the registers but for these two, which stay. Where CR4.CET is 0 no call uses the shadow stack.
+abbrev pub SameNextLine : Type 0
+SameNextLine = (look₁ look₂ : Lookup) → SameOrdinary look₁ look₂
+    → (i : Instruction) (s : State) (bytes₁ bytes₂ : List ℕ) (cet ssp : ℕ) → i .code ≡ 7 → i .a ≡ 0
+    → let r₁ : Step = perform codes look₁ i s bytes₁ in
+    let r₂ : Step = perform codes look₂ i (withShadow s cet ssp) bytes₂ in
+    (r₂ .answer ≡ r₁ .answer) × (r₂ .state ≡ withShadow (r₁ .state) cet ssp)
+
+-- and no byte on a page of another kind changes
+abbrev pub NextLineUntouched : Type 0
+NextLineUntouched = (look : Lookup) (i : Instruction) (s : State) (bytes : List ℕ) → Places look (length bytes) → i .code ≡ 7 → i .a ≡ 0
+    → (address : ℕ) → isOrdinary (look address) ≡ false → cell look (perform codes look i s bytes .bytes) address ≡ cell look bytes address

@@ -7,7 +7,7 @@ use Rattle.claims.specs.ListOrder.{OrderFree}
 use Rattle.claims.specs.Ledger.{Ledger}
 use Rattle.claims.specs.Ranges.{StaysInRange, RunStaysInRange}
 use Rattle.claims.specs.Faults.{FaultNumbers}
-use Rattle.claims.specs.NextLine.{NextLine}
+use Rattle.claims.specs.NextLine.{SameNextLine, NextLineUntouched}
 use Rattle.claims.specs.Worked.{Worked}
 use Rattle.claims.specs.WorkedReturns.{WorkedReturns}
 
@@ -33,6 +33,7 @@ pub record Promises : Type 0 where
   pub stays-in-range : StaysInRange
   pub run-stays-in-range : RunStaysInRange
   pub fault-numbers : FaultNumbers
-  pub next-line : NextLine
+  pub same-next-line : SameNextLine
+  pub next-line-untouched : NextLineUntouched
   pub worked : Worked
   pub worked-returns : WorkedReturns
