@@ -4,14 +4,13 @@ use mathlib.Core.Path.{_≡_, refl, sym, _∙_, ap}
 use mathlib.Core.Bool.{true, false, true≢false, false≢true}
 use native.Mathlib.Decide.{decLe}
 use native.Mathlib.Omega.{arith}
-use lib.Dec.{eqb, ltb, leb·zero}
+use lib.Dec.{ltb, leb·zero}
 use lib.IntN.{ℤ, pos, negsuc, _-ℤ_}
 use lib.Signed.{leZ}
-use borrow.Author.Tests.{lt-ltb, le-ltb, ne-eqb}
+use borrow.Author.Tests.{lt-ltb, le-ltb}
 use mir.Syntax.{w64}
 use mir.Val.{SFits, ofZ, toZ}
 use mir.ValLaws.{toZ-ofZ}
-use Rattle.calls.specs.Call.{isZero}
 
 -- the number behind a sign that was tested
 pub record Positive (z : ℤ) : Type 0 where
@@ -39,13 +38,6 @@ below n = rw (le-ltb (suc n) 1 (omega arith)) (ap pos (omega arith))
 -- a number of 32 bits, less 2^32
 pub wrapped : (n : ℕ) → n < 2 ^ 32 → pos n -ℤ pos (2 ^ 32) ≡ negsuc (2 ^ 32 - 1 - n)
 wrapped n h = rw (lt-ltb n (2 ^ 32) h) (ap negsuc (omega arith))
-
--- the bits of a number are all 0 for 0 alone
-pub zero-bits : (z : ℤ) → SFits w64 z → eqb (ofZ w64 z) 0 ≡ isZero z
-zero-bits (pos n) f = refl
-zero-bits (negsuc n) f =
-    let small : n < 2 ^ 63 = f .sfits in
-    ne-eqb (2 ^ 64 - suc n) 0 (λ e. omega arith)
 
 -- ---- the end of a 32-bit stack
 

@@ -1,6 +1,6 @@
 -- Near CALL, relative and absolute. Assumes nothing.
 use Prim.Native.Nat.{ℕ, _+_, _-_, _%_, _^_}
-use mathlib.Core.Bool.{Bool, true, false, not, cond, _&&_}
+use mathlib.Core.Bool.{Bool, true, not, cond, _&&_}
 use lib.Dec.{eqb, ltb, leb}
 use lib.IntN.{ℤ, pos, negsuc}
 use Rattle.memory.specs.Access.{byteCount}
@@ -21,10 +21,6 @@ displacement a =
     let low : ℕ = a % 2 ^ 32 in
     cond (ltb low (2 ^ 31)) (pos low) (negsuc (2 ^ 32 - 1 - low))
 
-abbrev pub isZero : ℤ → Bool
-isZero (pos n) = eqb n 0
-isZero (negsuc n) = false
-
 -- a pointer moved by a signed number; `negsuc d` is -(d + 1)
 abbrev pub moved : State → ℕ → ℤ → ℕ
 moved s from (pos d) = plus s from d
@@ -33,10 +29,6 @@ moved s from (negsuc d) = minus s from (d + 1)
 -- the target of a relative call
 unfoldable pub relative : State → ℕ → ℕ → ℕ
 relative s a length = moved s (next s length) (displacement a)
-
--- a displacement other than 0; Intel's text has `DEST != 0`
-unfoldable pub displaced : ℕ → Bool
-displaced a = not (isZero (displacement a))
 
 -- in mode 2 the target must be canonical, otherwise within the code limit
 unfoldable pub inCode : State → ℕ → Bool
@@ -52,12 +44,16 @@ pushed s = cond (isLong s) Eight Four
 unfoldable pub runsPast : State → ℕ → Bool
 runsPast s first = not (isLong s) && ltb (2 ^ 32) (first + 4)
 
--- the shadow stack is pushed on where it is enabled and the call is one that makes a frame
+-- the displacement is not 0; Intel's text has `DEST != 0`
+unfoldable pub displaced : ℕ → Bool
+displaced a = not (eqb (a % 2 ^ 32) 0)
+
+-- the shadow stack is pushed on where it is enabled and the call is of a form that makes a frame
 unfoldable pub pushesFrame : State → Bool → Bool
 pushesFrame s framed = enabled s && framed
 
--- The call: Next on the ordinary stack and, where the shadow stack is pushed on, there too; then the target. Only a relative call with
--- displacement 0 makes no frame: `framed` is false for it, and it has no access of the shadow stack.
+-- The call: Next on the ordinary stack and, where the shadow stack is pushed on, there too; then the target. `framed` says whether the
+-- call's form makes a frame: that of a relative call with displacement 0 does not, every other does.
 unfoldable pub call : ℕ → Bool → ℕ → State → Prog State
 call target framed length s =
     let size : Size = pushed s in

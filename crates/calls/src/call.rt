@@ -4,7 +4,7 @@ ghost use lib.ListN.{length as count};
 ghost use Rattle.memory.specs.Pages.{spot};
 ghost use Rattle.processor.specs.Prog.{operate};
 ghost use Rattle.processor.specs.Outcomes.{stepOf};
-ghost use Rattle.calls.specs.Call.{displacement as displacementOf, moved as movedOf, relative as relativeOf, displaced as displacedOf, inCode, pushed as pushedOf, runsPast, pushesFrame, call};
+ghost use Rattle.calls.specs.Call.{displacement as displacementOf, moved as movedOf, relative as relativeOf, inCode, pushed as pushedOf, runsPast, displaced as displacedOf, pushesFrame, call};
 use memory::Reach;
 use memory::Size;
 use processor::Outcome;
@@ -42,13 +42,6 @@ pub fn relative(state: State, a: u64, length: u64) -> u64
     moved(state, state.next(length), displacement(a))
 }
 
-// Whether the displacement of a relative call is other than 0.
-pub fn displaced(a: u64) -> bool
-    ensures { λ r. ⌜ r ≡ displacedOf a ⌝ }
-{
-    displacement(a) != 0
-}
-
 // Whether a call or a return may go to the target.
 pub(crate) fn in_code(state: State, target: u64) -> bool
     ensures { λ r. ⌜ r ≡ inCode state target ⌝ }
@@ -79,6 +72,13 @@ pub(crate) fn runs_past(state: State, first: u64) -> bool
         return false;
     }
     first > 0xffff_fffc
+}
+
+// Whether the displacement of a relative call is other than 0.
+pub fn displaced(a: u64) -> bool
+    ensures { λ r. ⌜ r ≡ displacedOf a ⌝ }
+{
+    a % 0x1_0000_0000 != 0
 }
 
 // Whether the call pushes on the shadow stack.

@@ -55,7 +55,7 @@ abbrev plain : ℕ → ℕ → State → Prog State
 plain to length s = unframed to length (hidden s) >>= (λ t. done (shown s t))
 
 is-plain : (i : Instruction) (s : State) → i .code ≡ 7 → i .a ≡ 0 → exec codes i s ≡ plain (target i (hidden s)) (i .length) s
-unfolding exec operationOf operation oneOf framed displaced displacement
+unfolding exec operationOf operation oneOf framed displaced
 is-plain i s code a = rw (code, a) (ap (λ (p : Prog State). p >>= (λ t. done (shown s t))) (no-frame _ (i .length) (hidden s)))
 
 -- ---- the push

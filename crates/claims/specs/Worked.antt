@@ -1,4 +1,4 @@
--- The worked cases P1 to P18 (docs/RULES.md, "Worked cases"): rows of data, and one claim over all of them. What a row expects is
+-- The worked cases P1 to P19 (docs/RULES.md, "Worked cases"): rows of data, and one claim over all of them. What a row expects is
 -- written from the rules by hand. Every byte of the final memory is compared, and every register. Assumes nothing.
 use Prim.Native.Nat.{ℕ, zero, suc, _+_, _*_, _/_, _%_}
 use mathlib.Core.Path.{_≡_}
@@ -256,23 +256,23 @@ abbrev pub p15 : Row
 p15 = completes 1 (long 0x40_0000 0x1ff0 0) (qword 0x5008 0x1122_3344_5566_7788 ∷ qword 0x1fe8 0x1122_3344_5566_7788 ∷ []) (callAbsolute 0x40_0005)
     (stateOf 2 1 0x40_0005 0x5008 0x1fe8 0) (qword 0x5008 0x40_0005 ∷ qword 0x1fe8 0x40_0005 ∷ [])
 
--- P16. Half of the frame would lie on no page. Displacement 0 does not ask; the address does.
+-- P16. Half of the frame would lie on no page. With displacement 0 no frame is tried; by the address it is.
 abbrev pub p16Relative : Row
-p16Relative = completes 1 (long 0x40_0000 0x1004 0) [] (callRelative 0)
+p16Relative = completes 1 (long 0x40_0000 0x1004 0) (qword 0x5008 0x1122_3344_5566_7788 ∷ []) (callRelative 0)
     (stateOf 2 1 0x40_0005 0x5008 0x1004 0) (qword 0x5008 0x40_0005 ∷ [])
 
 abbrev pub p16Absolute : Row
 p16Absolute = faults (long 0x40_0000 0x1004 0) [] (callAbsolute 0x40_0005) (faultOf Page 0 0xffc)
 
--- P17. The frame would lie at the lowest address that is not canonical. Likewise.
+-- P17. The frame would lie at the lowest address that is not canonical: no fault with displacement 0, #GP by the address.
 abbrev pub p17Relative : Row
-p17Relative = completes 1 (long 0x40_0000 0x0000_8000_0000_0008 0) [] (callRelative 0)
+p17Relative = completes 1 (long 0x40_0000 0x0000_8000_0000_0008 0) (qword 0x5008 0x1122_3344_5566_7788 ∷ []) (callRelative 0)
     (stateOf 2 1 0x40_0005 0x5008 0x0000_8000_0000_0008 0) (qword 0x5008 0x40_0005 ∷ [])
 
 abbrev pub p17Absolute : Row
 p17Absolute = faults (long 0x40_0000 0x0000_8000_0000_0008 0) [] (callAbsolute 0x40_0005) (faultOf Protection 0 0)
 
--- P18. Mode 1, where both pushes have 4 bytes and the frame would lie on no page. Likewise.
+-- P18. Mode 1: both pushes have 4 bytes, and the frame would lie on no page. No fault with displacement 0, #PF by the address.
 abbrev pub p18Relative : Row
 p18Relative = completes 1 (stateOf 1 1 0x40_0000 0x5010 0x1000 0) (qword 0x5008 0x1122_3344_5566_7788 ∷ []) (callRelative 0)
     (stateOf 1 1 0x40_0005 0x500c 0x1000 0) (dword 0x500c 0x40_0005 ∷ [])
@@ -280,10 +280,23 @@ p18Relative = completes 1 (stateOf 1 1 0x40_0000 0x5010 0x1000 0) (qword 0x5008 
 abbrev pub p18Absolute : Row
 p18Absolute = faults (stateOf 1 1 0x40_0000 0x5010 0x1000 0) [] (callAbsolute 0x40_0005) (faultOf Page 0 0xffc)
 
+-- P19. What looks like displacement 0 and is not: only the sign bit set, only bits above 15 set, and an address of 0. All make a frame.
+abbrev pub p19Sign : Row
+p19Sign = completes 1 (long 0x40_0000 0x1ff0 0) [] (callRelative 0x8000_0000)
+    (stateOf 2 1 0xffff_ffff_8040_0005 0x5008 0x1fe8 0) (qword 0x5008 0x40_0005 ∷ qword 0x1fe8 0x40_0005 ∷ [])
+
+abbrev pub p19High : Row
+p19High = completes 1 (long 0x40_0000 0x1ff0 0) [] (callRelative 0x1_0000)
+    (stateOf 2 1 0x41_0005 0x5008 0x1fe8 0) (qword 0x5008 0x40_0005 ∷ qword 0x1fe8 0x40_0005 ∷ [])
+
+abbrev pub p19Address : Row
+p19Address = completes 1 (long 0x40_0000 0x1ff0 0) [] (callAbsolute 0)
+    (stateOf 2 1 0 0x5008 0x1fe8 0) (qword 0x5008 0x40_0005 ∷ qword 0x1fe8 0x40_0005 ∷ [])
+
 -- ---- all of them
 
 abbrev pub rows : List Row
-rows = p1 ∷ p2 ∷ p3Two ∷ p3Four ∷ p4 ∷ p5 ∷ p6 ∷ p6Back ∷ p6Hole ∷ p7 ∷ p8 ∷ p9Forbidden ∷ p9Written ∷ p9Aligned ∷ p9Ordinary ∷ p10 ∷ p11 ∷ p12 ∷ p13 ∷ p14 ∷ p15 ∷ p16Relative ∷ p16Absolute ∷ p17Relative ∷ p17Absolute ∷ p18Relative ∷ p18Absolute ∷ []
+rows = p1 ∷ p2 ∷ p3Two ∷ p3Four ∷ p4 ∷ p5 ∷ p6 ∷ p6Back ∷ p6Hole ∷ p7 ∷ p8 ∷ p9Forbidden ∷ p9Written ∷ p9Aligned ∷ p9Ordinary ∷ p10 ∷ p11 ∷ p12 ∷ p13 ∷ p14 ∷ p15 ∷ p16Relative ∷ p16Absolute ∷ p17Relative ∷ p17Absolute ∷ p18Relative ∷ p18Absolute ∷ p19Sign ∷ p19High ∷ p19Address ∷ []
 
 -- Every row's run gives what the row expects: count, answer, all registers, all bytes.
 abbrev pub Worked : Type 0

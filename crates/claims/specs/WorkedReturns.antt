@@ -1,4 +1,4 @@
--- Worked cases of near RET and WRUSS, R1 to R17 (docs/RULES.md, "Worked cases"), in the same words as P1 to P18. Assumes nothing.
+-- Worked cases of near RET and WRUSS, R1 to R17 (docs/RULES.md, "Worked cases"), in the same words as P1 to P19. Assumes nothing.
 use Prim.Native.Nat.{ℕ}
 use mathlib.Core.Path.{_≡_}
 use mathlib.Core.List.{List, [], _∷_, _++_, map}

@@ -19,7 +19,8 @@ use Rattle.replay.specs.declared.instruction.Instruction.{Instruction}
 unfoldable pub target : Instruction → State → ℕ
 target i s = cond (eqb (i .code) 7) (relative s (i .a) (i .length)) (i .a)
 
--- code 7 makes a shadow frame unless its displacement is 0; code 8 always does, also where its target is Next
+-- Whether a call is of a form that makes a shadow frame, where the shadow stack is enabled: code 7 unless its displacement is 0, code 8
+-- also where its target is Next. Asked of calls only.
 unfoldable pub framed : Instruction → Bool
 framed i = cond (eqb (i .code) 7) (displaced (i .a)) true
 

@@ -27,7 +27,7 @@ fn call_target(step: Instruction, state: State) -> u64
     }
 }
 
-// Whether a call makes a shadow frame.
+// Whether a call is of a form that makes a shadow frame.
 fn framed(step: Instruction) -> bool
     ensures { λ r. ⌜ r ≡ framedOf step ⌝ }
 {
