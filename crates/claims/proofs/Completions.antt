@@ -1,5 +1,5 @@
 -- What an instruction that completes leaves of the state, for the codes that are built. Assumes nothing.
-use Prim.Native.Nat.{ℕ, _+_, _*_, _%_, _^_, _≤_}
+use Prim.Native.Nat.{ℕ, _+_, _*_, _%_, _^_, _<_, _≤_}
 use mathlib.Core.Bool.{Bool, true, false, not, cond, _&&_}
 use mathlib.Core.List.{List}
 use mathlib.Core.Path.{_≡_, refl, ap}
@@ -13,13 +13,13 @@ use Rattle.processor.specs.State.{widthOf, userMode, enabled, usable, permitted
 use Rattle.processor.specs.declared.answer.Answer.the-variants.{Completed}
 use Rattle.processor.specs.declared.state.State.{State}
 use Rattle.switches.specs.Saveprevssp.{carry}
-use Rattle.calls.specs.Call.{pushed, pushesFrame}
-use Rattle.replay.specs.Instruction.{isQuad, sizeOf, wordsFit, lengthFits, narrow, modeFits, wellFormed}
+use Rattle.calls.specs.Call.{pushed, displaced, pushesFrame}
+use Rattle.replay.specs.Instruction.{oneOf, isQuad, sizeOf, wordsFit, lengthFits, narrow, modeFits, wellFormed}
 use Rattle.replay.specs.Permission.{writeBit, withoutWrite, withCet, hidden, shown}
 use Rattle.replay.specs.Exec.{operationOf, exec, perform}
 use Rattle.replay.specs.Codes.{target, framed, operationFrom9, operation, codes}
 use Rattle.replay.specs.declared.instruction.Instruction.{Instruction}
-use Rattle.claims.specs.Ledger.{frameBytes, popped, pushedBy}
+use Rattle.claims.specs.Ledger.{frameBytes, popped, isNextLine, pushedBy}
 use Rattle.claims.proofs.CodeNames.{Named, wrss, incssp, rstorssp, saveprevssp, call, ret, wruss, unknown, named}
 use Rattle.claims.proofs.Leaves.{Leaves, then-leaves, performed}
 use Rattle.claims.proofs.OperationLeaves.{Kept, Pointer, incssp-leaves, wrss-leaves, rstorssp-leaves, pastToken, saveprevssp-leaves, belowPushed, call-leaves, pastFrame, ret-leaves, wruss-leaves}
@@ -78,7 +78,20 @@ past-turn s = go (carry s)
     go true = plus-twice (widthOf s) (s .ssp) 8 4
     go false = plus-back (widthOf s) (s .ssp) 8
 
--- CALL
+-- CALL: the displacement of a well-formed relative one is all of A
+framed-by-words : (i : Instruction) (mode : ℕ) → wellFormed i mode ≡ true → framed i ≡ not (isNextLine i)
+unfolding framed displaced wellFormed wordsFit oneOf
+framed-by-words i mode form = by (eqb (i .code) 7) refl
+  where
+    by : (t : Bool) → eqb (i .code) 7 ≡ t → cond t (not (eqb (i .a % 2 ^ 32) 0)) true ≡ not (t && eqb (i .a) 0)
+    by true e =
+        let code : i .code ≡ 7 = eqb-true _ _ e in
+        let fits : (ltb (i .a) (2 ^ 32) && eqb (i .b) 0) ≡ true = rw code at (both (wordsFit i) _ form .0) in
+        let below : i .a < 2 ^ 32 = ltb-true _ _ (both (ltb (i .a) (2 ^ 32)) _ fits .0) in
+        let whole : i .a % 2 ^ 32 ≡ i .a = omega arith in
+        ap (λ (n : ℕ). not (eqb n 0)) whole
+    by false e = refl
+
 below-turn : (s : State) (framed : Bool) → wrapped (widthOf s) (s .ssp + 0) ≡ wrapped (widthOf s) (belowPushed s framed + cond framed (frameBytes s) 0)
 unfolding minus frameBytes pushesFrame
 below-turn s = go (enabled s)
@@ -151,7 +164,7 @@ leads i allowed s form (call t) =
     record {
       new = belowPushed s (framed i);
       leaves = rw (t .is-wrss, t .is-incssp, t .is-rstorssp, t .is-saveprevssp, t .is-call) (call-leaves (target i s) (framed i) (i .length) s);
-      turn = λ other. rw (t .is-incssp, t .is-saveprevssp, t .is-ret, t .is-call) (below-turn s (framed i));
+      turn = λ other. rw (t .is-incssp, t .is-saveprevssp, t .is-ret, t .is-call, ← framed-by-words i (s .mode) form) (below-turn s (framed i));
     }
 leads i allowed s form (ret t) =
     record {

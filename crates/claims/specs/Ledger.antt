@@ -1,7 +1,7 @@
 -- The ledger of the shadow stack pointer (docs/RULES.md, "The ledger"). Assumes nothing.
 use Prim.Native.Nat.{ℕ, zero, suc, _+_, _*_, _%_, _<_}
 use mathlib.Core.Path.{_≡_}
-use mathlib.Core.Bool.{cond, _&&_}
+use mathlib.Core.Bool.{Bool, not, cond, _&&_}
 use mathlib.Core.List.{List}
 use lib.ListN.{length}
 use lib.Dec.{eqb}
@@ -13,7 +13,7 @@ use Rattle.processor.specs.declared.state.State.{State}
 use Rattle.switches.specs.Saveprevssp.{carry}
 use Rattle.calls.specs.Call.{pushed}
 use Rattle.replay.specs.Instruction.{instructionAt, isIncssp, isCall, isRet, sizeOf}
-use Rattle.replay.specs.Codes.{framed, codes}
+use Rattle.replay.specs.Codes.{codes}
 use Rattle.replay.specs.Run.{Run, run, after}
 use Rattle.replay.specs.declared.instruction.Instruction.{Instruction}
 
@@ -30,9 +30,14 @@ popped i s =
     (cond (isRet i) (frameBytes s)
     0))
 
--- bytes pushed by it: a frame by CALL, but nothing by a relative one with displacement 0
+-- a relative CALL with displacement 0, by the words of the instruction and not by CALL's own definition: the ledger then says of every
+-- call which it is
+abbrev pub isNextLine : Instruction → Bool
+isNextLine i = eqb (i .code) 7 && eqb (i .a) 0
+
+-- bytes pushed by it: a frame by every other CALL
 unfoldable pub pushedBy : Instruction → State → ℕ
-pushedBy i s = cond (isCall i && framed i) (frameBytes s) 0
+pushedBy i s = cond (isCall i && not (isNextLine i)) (frameBytes s) 0
 
 -- the sum over the first k instructions of what each one, with its opening state, counts for
 unfoldable pub sumOf : (Instruction → State → ℕ) → (ℕ → Instruction) → (ℕ → State) → ℕ → ℕ

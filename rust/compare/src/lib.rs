@@ -10,7 +10,7 @@
 //! * [`difference`]: two sightings side by side, and only what differs.
 //! * [`damage`]: ways to spoil an input so that it is refused.
 //! * [`rows`]: cases with what must come of them, written out by hand.
-//! * [`worked`]: the worked cases P1 to P18 of the rules.
+//! * [`worked`]: the worked cases P1 to P19 of the rules.
 //! * [`worked_returns`]: those of RET and WRUSS, R1 to R17.
 //! * [`edges`]: limits of lists, lengths, pointers and targets.
 //! * [`tokens`]: tokens that are just right and just wrong.

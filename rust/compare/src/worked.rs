@@ -1,4 +1,4 @@
-//! The worked cases P1 to P18 of the rules, with the numbers that they name.
+//! The worked cases P1 to P19 of the rules, with the numbers that they name.
 
 use crate::answer::{Answer, GP, UD};
 use crate::case::{Case, field};
@@ -38,6 +38,7 @@ pub fn rows() -> Vec<Row> {
         narrow(),
         calls_of_next(),
         calls_of_next_with_no_room(),
+        calls_not_of_next(),
     ]
     .concat()
 }
@@ -204,6 +205,29 @@ fn calls_of_next_with_no_room() -> Vec<Row> {
             _ => done.field(field::SP, 0x500c).bytes::<4>(0x500c, 0x40_0005),
         };
         [done, Row::ends(absolute, case([8, 5, 0x40_0005, 0]), fault)]
+    })
+    .collect()
+}
+
+/// P19: what looks like a displacement of 0 and is none.
+fn calls_not_of_next() -> Vec<Row> {
+    [
+        (
+            "P19, the sign",
+            [7, 5, 0x8000_0000, 0],
+            0xffff_ffff_8040_0005,
+        ),
+        ("P19, above 16 bits", [7, 5, 0x1_0000, 0], 0x41_0005),
+        ("P19, an address", [8, 5, 0, 0], 0),
+    ]
+    .into_iter()
+    .map(|(name, instruction, target)| {
+        Row::completes(name, plain(&[instruction]))
+            .field(field::IP, target)
+            .field(field::SP, 0x5008)
+            .bytes::<8>(0x5008, 0x40_0005)
+            .field(field::SSP, 0x1fe8)
+            .bytes::<8>(0x1fe8, 0x40_0005)
     })
     .collect()
 }

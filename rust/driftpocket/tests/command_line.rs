@@ -58,7 +58,7 @@ fn the_worked_cases() {
     assert_eq!(output.status.code(), Some(0));
     assert!(output.stderr.is_empty());
     let text = shown(&output);
-    let first = (1..=18).map(|number| format!("P{number}"));
+    let first = (1..=19).map(|number| format!("P{number}"));
     let second = (1..=17).map(|number| format!("R{number}"));
     for name in first.chain(second) {
         let title = |line: &str| {
@@ -67,7 +67,7 @@ fn the_worked_cases() {
         };
         assert!(text.lines().any(title), "{name}");
     }
-    assert!(text.ends_with("48 runs replayed; 48 of them agree with the run as a whole\n"));
+    assert!(text.ends_with("51 runs replayed; 51 of them agree with the run as a whole\n"));
 }
 
 #[test]

@@ -15,7 +15,7 @@ usage: replay FILE             replay the run sheet in this file
                                carriage returns that a spreadsheet leaves at
                                the ends of lines, and say whether it is a sheet;
                                send it to another file than FILE
-       replay --worked         replay the worked cases of the rules, P1 to P18
+       replay --worked         replay the worked cases of the rules, P1 to P19
                                and R1 to R17
        replay --help           this text
 

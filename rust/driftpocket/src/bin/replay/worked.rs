@@ -1,4 +1,4 @@
-//! The worked cases of the rules as runs: P1 to P18 here, R1 to R17 in
+//! The worked cases of the rules as runs: P1 to P19 here, R1 to R17 in
 //! `returns`.
 //!
 //! Where the rules leave a number open, it is chosen so that more can be seen:
@@ -25,6 +25,7 @@ pub fn runs() -> Result<Vec<Run>, PageError> {
         narrow(),
         calls_of_next(),
         calls_of_next_with_no_room(),
+        calls_not_of_next(),
         returns::cases(),
     ]
     .into_iter()
@@ -255,50 +256,60 @@ fn calls_of_next() -> Vec<Case> {
 
 /// P16 to P18: the same where a frame could not be pushed.
 fn calls_of_next_with_no_room() -> Vec<Case> {
-    let relative = Instruction::call_relative(5, 0);
-    let absolute = Instruction::call_absolute(5, 0x40_0005);
     let narrow = State {
         mode: 1,
         ..user(0x1000)
     };
-    vec![
-        case(
-            "P16, first part. CALL with displacement 0 where the page for a frame is missing: it completes.",
-            user(0x1004),
-            &[],
-            &[relative],
+    let no_page = [
+        "P16, first part. CALL with displacement 0 where the page for a frame is missing: it completes.",
+        "P16, second part. CALL absolute to the next instruction from there: #PF at 0xffc.",
+    ];
+    let not_canonical = [
+        "P17, first part. CALL with displacement 0 where a frame would not be canonical: it completes.",
+        "P17, second part. CALL absolute to the next instruction from there: #GP(0).",
+    ];
+    let in_mode_1 = [
+        "P18, first part. P16 in mode 1, where 4 bytes are pushed: it completes.",
+        "P18, second part. CALL absolute to the next instruction from there: #PF at 0xffc.",
+    ];
+    [
+        (no_page, user(0x1004)),
+        (not_canonical, user(0x8000_0000_0008)),
+        (in_mode_1, narrow),
+    ]
+    .into_iter()
+    .flat_map(|([relative, absolute], state)| {
+        [
+            case(relative, state, &[], &[Instruction::call_relative(5, 0)]),
+            case(
+                absolute,
+                state,
+                &[],
+                &[Instruction::call_absolute(5, 0x40_0005)],
+            ),
+        ]
+    })
+    .collect()
+}
+
+/// P19: what looks like a displacement of 0 and is none.
+fn calls_not_of_next() -> Vec<Case> {
+    [
+        (
+            "P19, first part. CALL with only the sign bit set in its displacement pushes on both stacks.",
+            Instruction::call_relative(5, i32::MIN),
         ),
-        case(
-            "P16, second part. CALL absolute to the next instruction from there: #PF at 0xffc.",
-            user(0x1004),
-            &[],
-            &[absolute],
+        (
+            "P19, second part. CALL with a displacement of 0x10000, whose low 16 bits are 0: the same.",
+            Instruction::call_relative(5, 0x1_0000),
         ),
-        case(
-            "P17, first part. CALL with displacement 0 where a frame would not be canonical: it completes.",
-            user(0x8000_0000_0008),
-            &[],
-            &[relative],
-        ),
-        case(
-            "P17, second part. CALL absolute to the next instruction from there: #GP(0).",
-            user(0x8000_0000_0008),
-            &[],
-            &[absolute],
-        ),
-        case(
-            "P18, first part. P16 in mode 1, where 4 bytes are pushed: it completes.",
-            narrow,
-            &[],
-            &[relative],
-        ),
-        case(
-            "P18, second part. CALL absolute to the next instruction from there: #PF at 0xffc.",
-            narrow,
-            &[],
-            &[absolute],
+        (
+            "P19, third part. CALL absolute to 0: the same.",
+            Instruction::call_absolute(5, 0),
         ),
     ]
+    .map(|(title, call)| case(title, user(0x1ff0), &[], &[call]))
+    .into()
 }
 
 #[cfg(test)]
@@ -309,7 +320,7 @@ mod tests {
     use std::path::Path;
 
     /// The stored sheets of the runs, in their order.
-    const SHEETS: [&str; 48] = [
+    const SHEETS: [&str; 51] = [
         "p01",
         "p02",
         "p03-first",
@@ -334,6 +345,9 @@ mod tests {
         "p17-second",
         "p18-first",
         "p18-second",
+        "p19-first",
+        "p19-second",
+        "p19-third",
         "r01",
         "r02",
         "r03",
@@ -360,9 +374,9 @@ mod tests {
         "r17-third",
     ];
 
-    /// What the rules say of each run up to P18: its outcome, and SSP, IP and
+    /// What the rules say of each run up to P19: its outcome, and SSP, IP and
     /// RFLAGS after it.
-    const ENDS: [(&str, u64, u64, u64); 24] = [
+    const ENDS: [(&str, u64, u64, u64); 27] = [
         ("1 completed", 0x1ff8, 0x40_0005, 0),
         ("0 completed, then #PF at 0x3000", 0x3000, 0x40_0000, 0),
         ("1 completed", 0x3000, 0x40_0005, 0),
@@ -392,21 +406,25 @@ mod tests {
         ("0 completed, then #GP(0)", 0x8000_0000_0008, 0x40_0000, 0),
         ("1 completed", 0x1000, 0x40_0005, 0),
         ("0 completed, then #PF at 0xffc", 0x1000, 0x40_0000, 0),
+        ("1 completed", 0x1fe8, 0xffff_ffff_8040_0005, 0),
+        ("1 completed", 0x1fe8, 0x41_0005, 0),
+        ("1 completed", 0x1fe8, 0, 0),
     ];
 
     /// The runs in which SP moves, and how far: by a call that completes.
-    const CALLED: [(&str, u64); 6] = [
+    const CALLED: [(&str, u64); 7] = [
         ("P10.", 8),
         ("P14.", 8),
         ("P15.", 8),
         ("P16, first part.", 8),
         ("P17, first part.", 8),
         ("P18, first part.", 4),
+        ("P19, ", 8),
     ];
 
     /// The numbers in memory after the runs that store: the case, then address,
     /// size, value.
-    const STORED: [(usize, u64, Size, u64); 22] = [
+    const STORED: [(usize, u64, Size, u64); 25] = [
         (4, 0x2ff0, Size::Eight, 0x1ff3),
         (5, 0x2ff0, Size::Eight, 0x1ff3),
         (5, 0x1fe8, Size::Eight, 0x1ff1),
@@ -429,6 +447,9 @@ mod tests {
         (21, 0x5008, Size::Eight, 0),
         (22, 0x5008, Size::Eight, 0x40_0005 << 32),
         (23, 0x5008, Size::Eight, 0),
+        (24, 0x1fe8, Size::Eight, 0x40_0005),
+        (25, 0x1fe8, Size::Eight, 0x40_0005),
+        (26, 0x1fe8, Size::Eight, 0x40_0005),
     ];
 
     #[test]
