@@ -85,9 +85,10 @@ extern "C" {
 #define DRIFTPOCKET_SAVEPREVSSP 4   /* no operand */
 #define DRIFTPOCKET_WRSSD 5         /* A: the address; B: the value, of which the low 4 bytes are stored */
 #define DRIFTPOCKET_WRSSQ 6         /* A: the address; B: the value. Not in mode 1 */
-#define DRIFTPOCKET_CALL_RELATIVE 7 /* A: the displacement, 32 bits in two's complement, so below 2^32; with 0 the shadow
-                                       stack is not accessed. Not in mode 0 */
-#define DRIFTPOCKET_CALL_ABSOLUTE 8 /* A: the target, be it that of the next instruction. Not in mode 0 */
+#define DRIFTPOCKET_CALL_RELATIVE 7 /* A: the displacement, 32 bits in two's complement, so below 2^32; 0 makes no
+                                       shadow frame. Not in mode 0 */
+#define DRIFTPOCKET_CALL_ABSOLUTE 8 /* A: the target; the next instruction's address makes a shadow frame too.
+                                       Not in mode 0 */
 #define DRIFTPOCKET_RET 9           /* no operand. Not in mode 0 */
 #define DRIFTPOCKET_RET_COUNT 10    /* A: how many bytes SP moves up besides the return address, 16 bits, so below 2^16. Not
                                        in mode 0 */

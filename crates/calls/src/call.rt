@@ -88,7 +88,8 @@ fn pushes_frame(state: State, framed: bool) -> bool
     if state.enabled() { framed } else { false }
 }
 
-// The call to a target. A relative call's target is that of `relative`, and it makes a shadow frame only where it is `displaced`.
+// The call to a target, of a form that makes a shadow frame or of the one that does not; whoever calls this says which. A relative call
+// has the target that `relative` gives, and its form makes a frame where it is `displaced`; that of an absolute call always does.
 pub fn execute(
     state: State,
     pages: &[u64],
@@ -121,8 +122,8 @@ pub fn execute(
     match processor::store_both(pages, bytes, stack, next, shadow, next) {
         Stored::NoneStored(fault) => state.fail(fault),
         Stored::AllStored => {
-            let framed = called.with_ssp(ssp);
-            framed.complete(target)
+            let on_both = called.with_ssp(ssp);
+            on_both.complete(target)
         }
     }
 }

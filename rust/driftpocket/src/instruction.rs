@@ -73,14 +73,15 @@ impl Instruction {
         Instruction::new(code::WRSSQ, length, address, value)
     }
 
-    /// CALL, so far from the next instruction, up or down. With 0 the shadow
-    /// stack is not accessed.
+    /// CALL, so far from the next instruction, up or down. A call by 0
+    /// makes no shadow frame.
     pub fn call_relative(length: u64, displacement: i32) -> Instruction {
         let word = u64::from(displacement.cast_unsigned());
         Instruction::new(code::CALL_RELATIVE, length, word, 0)
     }
 
-    /// CALL to this address, be it that of the next instruction.
+    /// CALL to this address. It makes a shadow frame where one is enabled, also if
+    /// the address is that of the next instruction.
     pub fn call_absolute(length: u64, target: u64) -> Instruction {
         Instruction::new(code::CALL_ABSOLUTE, length, target, 0)
     }
@@ -141,10 +142,14 @@ impl Instruction {
         }
     }
 
-    /// Whether this, if it is a call, leaves a frame on the shadow stack where
-    /// one is enabled: every call does but a relative one with displacement 0.
+    /// Whether this is a call that leaves a frame on the shadow stack where one is
+    /// enabled: every call but a relative one with displacement 0.
     pub fn leaves_frame(&self) -> bool {
-        (self.code, self.a) != (code::CALL_RELATIVE, 0)
+        match self.code {
+            code::CALL_RELATIVE => self.a != 0,
+            code::CALL_ABSOLUTE => true,
+            _ => false,
+        }
     }
 
     /// The displacement of a relative call, if A can hold one.

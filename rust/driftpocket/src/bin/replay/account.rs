@@ -32,7 +32,7 @@ pub fn of(step: &Step, pages: &PageList) -> Vec<String> {
 fn no_frame(step: &Step) -> Vec<String> {
     match step.instruction.leaves_frame() {
         true => Vec::new(),
-        false => vec!["no frame: with displacement 0 the shadow stack is not accessed".to_string()],
+        false => vec!["no shadow frame: a call with displacement 0 makes none".to_string()],
     }
 }
 
@@ -130,7 +130,7 @@ mod tests {
     #[test]
     fn calls_of_the_next_line() {
         let mut one = run(Instruction::call_relative(5, 0));
-        let wanted = "no frame: with displacement 0 the shadow stack is not accessed";
+        let wanted = "no shadow frame: a call with displacement 0 makes none";
         assert_eq!(account(&one), [wanted]);
         one.state.ssp = 1 << 47;
         assert_eq!(account(&one), [wanted]);

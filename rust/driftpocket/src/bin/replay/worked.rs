@@ -261,7 +261,7 @@ fn calls_of_next_with_no_room() -> Vec<Case> {
         ..user(0x1000)
     };
     let no_page = [
-        "P16, first part. CALL with displacement 0 where the page for a frame is missing: it completes.",
+        "P16, first part. CALL with displacement 0 where half of a frame would lie on no page: it completes.",
         "P16, second part. CALL absolute to the next instruction from there: #PF at 0xffc.",
     ];
     let not_canonical = [
@@ -269,7 +269,7 @@ fn calls_of_next_with_no_room() -> Vec<Case> {
         "P17, second part. CALL absolute to the next instruction from there: #GP(0).",
     ];
     let in_mode_1 = [
-        "P18, first part. P16 in mode 1, where 4 bytes are pushed: it completes.",
+        "P18, first part. The same in mode 1, where a frame of 4 bytes would lie on no page: it completes.",
         "P18, second part. CALL absolute to the next instruction from there: #PF at 0xffc.",
     ];
     [
