@@ -30,8 +30,8 @@ popped i s =
     (cond (isRet i) (frameBytes s)
     0))
 
--- a relative CALL with displacement 0, by the words of the instruction and not by CALL's own definition: the ledger then says of every
--- call which it is
+-- A relative CALL with displacement 0, by the words of the instruction and not by CALL's own definition, so that the ledger holds only
+-- where that agrees.
 abbrev pub isNextLine : Instruction → Bool
 isNextLine i = eqb (i .code) 7 && eqb (i .a) 0
 
