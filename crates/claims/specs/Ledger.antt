@@ -35,7 +35,7 @@ popped i s =
 abbrev pub isNextLine : Instruction → Bool
 isNextLine i = eqb (i .code) 7 && eqb (i .a) 0
 
--- bytes pushed by it: a frame by every other CALL
+-- bytes pushed by an instruction that completes from this opening state: a frame by every CALL but that one
 unfoldable pub pushedBy : Instruction → State → ℕ
 pushedBy i s = cond (isCall i && not (isNextLine i)) (frameBytes s) 0
 
