@@ -2,7 +2,7 @@
 use Prim.Native.Nat.{ℕ, _+_, _*_, _%_, _^_, _<_, _≤_}
 use mathlib.Core.Bool.{Bool, true, false, not, cond, _&&_}
 use mathlib.Core.List.{List}
-use mathlib.Core.Path.{_≡_, refl, ap}
+use mathlib.Core.Path.{_≡_, refl, _∙_, ap}
 use native.Mathlib.Omega.{arith}
 use lib.Dec.{eqb, ltb}
 use borrow.Author.Tests.{ltb-true, eqb-true, eqb-false, not-true, eq-eqb}
@@ -164,7 +164,7 @@ leads i allowed s form (call t) =
     record {
       new = belowPushed s (framed i);
       leaves = rw (t .is-wrss, t .is-incssp, t .is-rstorssp, t .is-saveprevssp, t .is-call) (call-leaves (target i s) (framed i) (i .length) s);
-      turn = λ other. rw (t .is-incssp, t .is-saveprevssp, t .is-ret, t .is-call, ← framed-by-words i (s .mode) form) (below-turn s (framed i));
+      turn = λ other. rw (t .is-incssp, t .is-saveprevssp, t .is-ret, t .is-call) (below-turn s (framed i) ∙ ap (λ (makes : Bool). wrapped (widthOf s) (belowPushed s (framed i) + cond makes (frameBytes s) 0)) (framed-by-words i (s .mode) form));
     }
 leads i allowed s form (ret t) =
     record {
