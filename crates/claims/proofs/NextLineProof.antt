@@ -27,11 +27,15 @@ use Rattle.replay.specs.declared.instruction.Instruction.{Instruction}
 use Rattle.claims.specs.NextLine.{isOrdinary, SameOrdinary, withShadow, SameNextLine, NextLineUntouched}
 use Rattle.claims.proofs.OtherKinds.{tried-alike, kept-elsewhere}
 
--- a call that makes no frame: one push, and nothing else
+-- two tests and one push
+abbrev onePush : Bool → Bool → Access → ℕ → State → Prog State
+onePush inside fits push v after = unless inside gp >> (unless fits ss >> (store push v >> done after))
+
+-- a call that makes no frame
 abbrev unframed : ℕ → ℕ → State → Prog State
 unframed target length s =
     let sp : ℕ = minus s (s .sp) (byteCount (pushed s)) in
-    unless (inCode s target) gp >> (unless (not (runsPast s sp)) ss >> (store (ordinary s sp (pushed s) true) (next s length) >> done (withIp (withSp s sp) target)))
+    onePush (inCode s target) (not (runsPast s sp)) (ordinary s sp (pushed s) true) (next s length) (withIp (withSp s sp) target)
 
 no-frame : (target length : ℕ) (s : State) → call target false length s ≡ unframed target length s
 unfolding call pushesFrame _>>=_
@@ -69,10 +73,14 @@ push s = ordinary (hidden s) (newSp s) (pushed (hidden s)) true
 
 -- what is done by the two tests' outcomes, with the push and the pointers of s, from a state that may have another CR4.CET and SSP
 abbrev byTests : Bool → Bool → ℕ → ℕ → State → State → Prog State
-byTests b c to length s from =
-    (unless b gp >> (unless c ss >> (store (push s) (next (hidden s) length) >> done (withIp (withSp (hidden from) (newSp s)) to)))) >>= (λ t. done (shown from t))
+byTests inside fits to length s from =
+    onePush inside fits (push s) (next (hidden s) length) (withIp (withSp (hidden from) (newSp s)) to) >>= (λ t. done (shown from t))
 
 -- ---- the answer and the registers
+
+-- the same answer, and the same registers but for CR4.CET and SSP
+abbrev Alike : ℕ → ℕ → Step → Step → Type 0
+Alike cet ssp r₁ r₂ = (r₂ .answer ≡ r₁ .answer) × (r₂ .state ≡ withShadow (r₁ .state) cet ssp)
 
 module _ (look₁ look₂ : Lookup) (same : SameOrdinary look₁ look₂) (to length : ℕ) (s : State) (bytes₁ bytes₂ : List ℕ) (cet ssp : ℕ) where
   abbrev other : State
@@ -81,25 +89,21 @@ module _ (look₁ look₂ : Lookup) (same : SameOrdinary look₁ look₂) (to le
   abbrev after : State → State
   after from = shown from (withIp (withSp (hidden from) (newSp s)) to)
 
-  -- the same answer, and the same registers but for CR4.CET and SSP
-  abbrev Alike : Step → Step → Type 0
-  Alike r₁ r₂ = (r₂ .answer ≡ r₁ .answer) × (r₂ .state ≡ withShadow (r₁ .state) cet ssp)
-
   -- by what trying the push finds, whatever is left of the bytes
   pushed-alike : (left₁ left₂ : List ℕ)
-      → Alike (settle s bytes₁ (onReach (push s) (probe look₁ (push s)) (ended (after s) left₁))) (settle other bytes₂ (onReach (push s) (probe look₂ (push s)) (ended (after other) left₂)))
+      → Alike cet ssp (settle s bytes₁ (onReach (push s) (probe look₁ (push s)) (ended (after s) left₁))) (settle other bytes₂ (onReach (push s) (probe look₂ (push s)) (ended (after other) left₂)))
   unfolding hidden shown
   pushed-alike left₁ left₂ = rw (← tried-alike (hidden s) (newSp s) (pushed (hidden s)) (ended (after other) left₂) look₁ look₂ same) (by (probe look₁ (push s)))
     where
-      by : (r : Reach) → Alike (settle s bytes₁ (onReach (push s) r (ended (after s) left₁))) (settle other bytes₂ (onReach (push s) r (ended (after other) left₂)))
+      by : (r : Reach) → Alike cet ssp (settle s bytes₁ (onReach (push s) r (ended (after s) left₁))) (settle other bytes₂ (onReach (push s) r (ended (after other) left₂)))
       by Ready = (refl, refl)
       by (Blocked failure) = (refl, refl)
 
-  plain-alike : Alike (operate look₁ (plain to length s) s bytes₁) (operate look₂ (plain to length other) other bytes₂)
+  plain-alike : Alike cet ssp (operate look₁ (plain to length s) s bytes₁) (operate look₂ (plain to length other) other bytes₂)
   unfolding operate interp _>>=_ hidden shown next plus minus inCode runsPast
   plain-alike = go (inCode (hidden s) to) (not (runsPast (hidden s) (newSp s)))
     where
-      go : (b c : Bool) → Alike (settle s bytes₁ (interp look₁ (byTests b c to length s s) bytes₁)) (settle other bytes₂ (interp look₂ (byTests b c to length s other) bytes₂))
+      go : (b c : Bool) → Alike cet ssp (settle s bytes₁ (interp look₁ (byTests b c to length s s) bytes₁)) (settle other bytes₂ (interp look₂ (byTests b c to length s other) bytes₂))
       go false c = (refl, refl)
       go true false = (refl, refl)
       go true true = pushed-alike _ _
@@ -112,7 +116,7 @@ same-next-line look₁ look₂ same i s bytes₁ bytes₂ cet ssp code a =
     one : Lookup → State → List ℕ → Bool → Step
     one look from bytes t = cond t (operate look (plain (target i (hidden s)) (i .length) from) from bytes) (refused BadForm from bytes)
 
-    go : (t : Bool) → (one look₂ (withShadow s cet ssp) bytes₂ t .answer ≡ one look₁ s bytes₁ t .answer) × (one look₂ (withShadow s cet ssp) bytes₂ t .state ≡ withShadow (one look₁ s bytes₁ t .state) cet ssp)
+    go : (t : Bool) → Alike cet ssp (one look₁ s bytes₁ t) (one look₂ (withShadow s cet ssp) bytes₂ t)
     go true = plain-alike look₁ look₂ same (target i (hidden s)) (i .length) s bytes₁ bytes₂ cet ssp
     go false = (refl, refl)
 

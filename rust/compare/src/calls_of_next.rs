@@ -42,6 +42,7 @@ pub fn rows() -> Vec<Row> {
     let made = places.flat_map(|place| {
         [
             place.pointers(),
+            place.pointers_out_of_range(),
             place.not_enabled(),
             place.displacements(),
             place.faults(),
@@ -243,6 +244,28 @@ impl Place {
         }
         let alone = self.case(ROOM, &[RELATIVE]).on(&[0x5003]);
         rows.push(self.leaves_no_frame("relative, no shadow page", alone));
+        rows
+    }
+
+    /// A pointer that no state may have is refused whatever is called. In mode 1
+    /// so is every one that is not canonical.
+    fn pointers_out_of_range(self) -> Vec<Row> {
+        let pointers: &[u64] = if self.mode == 1 {
+            &[0x1ff2, FOUR_GIB, 0x0000_8000_0000_0008]
+        } else {
+            &[0x1ff2]
+        };
+        let mut rows = Vec::new();
+        for &ssp in pointers {
+            for words in [RELATIVE, ABSOLUTE] {
+                let name = self.name(&format!("{words:x?}, SSP {ssp:x}"));
+                rows.push(Row::ends(
+                    name,
+                    self.case(ssp, &[words]),
+                    Answer::refusal(5),
+                ));
+            }
+        }
         rows
     }
 

@@ -48,7 +48,7 @@ fn tokens_just_right_and_just_wrong() {
 
 #[test]
 fn calls_of_the_next_line() {
-    check(&calls_of_next::rows(), 828);
+    check(&calls_of_next::rows(), 860);
 }
 
 #[test]
