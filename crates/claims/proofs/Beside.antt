@@ -8,22 +8,22 @@ use native.Mathlib.Omega.{arith}
 use lib.ListN.{length}
 use Rattle.memory.specs.Access.{probe, value, written}
 use Rattle.memory.specs.Extends.{Extends, Places}
-use Rattle.memory.specs.Pages.{Lookup}
+use Rattle.pages.specs.Pages.{Lookup}
 use Rattle.memory.specs.declared.access.Access.{Access}
 use Rattle.memory.specs.declared.access.Failure.the-variants.{NotCanonical, NotListed, WrongKind}
 use Rattle.memory.specs.declared.access.Reach.{Reach}
 use Rattle.memory.specs.declared.access.Reach.the-variants.{Ready, Blocked}
 use Rattle.memory.proofs.Laws.{length-written, ready-in-second, same-value, store-in-both, not-canonical}
-use Rattle.processor.specs.Accesses.{blame}
+use Rattle.answers.specs.Blame.{blame}
 use Rattle.processor.specs.Prog.{Prog, done, stop, fetch, put, Result, ended, broken, onReach, interp, Step, settle, operate}
-use Rattle.processor.specs.declared.answer.Answer.the-variants.{Faulted}
-use Rattle.processor.specs.declared.answer.Fault.{Fault}
-use Rattle.processor.specs.declared.answer.Refusal.the-variants.{Instruction as BadForm}
+use Rattle.answers.specs.declared.answer.Answer.the-variants.{Faulted}
+use Rattle.answers.specs.declared.answer.Fault.{Fault}
+use Rattle.answers.specs.declared.answer.Refusal.the-variants.{Instruction as BadForm}
 use Rattle.processor.specs.declared.state.State.{State}
-use Rattle.replay.specs.Permission.{hidden}
-use Rattle.replay.specs.Exec.{InstructionSet, exec, refused, perform}
+use Rattle.instructions.specs.Permission.{hidden}
+use Rattle.perform.specs.Exec.{InstructionSet, exec, refused, perform}
 use Rattle.replay.specs.Run.{after}
-use Rattle.replay.specs.declared.instruction.Instruction.{Instruction}
+use Rattle.instructions.specs.declared.instruction.Instruction.{Instruction}
 use Rattle.claims.specs.MorePages.{isPageFault}
 
 -- the bytes that were lent to two lookups have become these, and the second memory still extends the first

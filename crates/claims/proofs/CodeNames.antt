@@ -5,8 +5,8 @@ use mathlib.Core.Path.{_≡_}
 use native.Mathlib.Omega.{arith}
 use lib.Dec.{eqb}
 use borrow.Author.Tests.{ne-eqb}
-use Rattle.replay.specs.Instruction.{oneOf, isIncssp, isWrss, isCall, isRet, isWruss}
-use Rattle.replay.specs.declared.instruction.Instruction.{Instruction}
+use Rattle.instructions.specs.Instruction.{oneOf, isIncssp, isWrss, isCall, isRet, isWruss}
+use Rattle.instructions.specs.declared.instruction.Instruction.{Instruction}
 
 -- the seven tests of a code at once
 pub record Tests (i : Instruction) (wrss incssp rstorssp saveprevssp call ret wruss : Bool) : Type 0 where

@@ -7,18 +7,18 @@ use native.Mathlib.Omega.{arith}
 use lib.Dec.{eqb, ltb}
 use borrow.Author.Tests.{ltb-true, eqb-true, eqb-false, not-true, eq-eqb}
 use Rattle.memory.specs.Access.{byteCount}
-use Rattle.memory.specs.Address.{wrapped}
-use Rattle.memory.specs.Pages.{Lookup}
+use Rattle.pages.specs.Address.{wrapped}
+use Rattle.pages.specs.Pages.{Lookup}
 use Rattle.processor.specs.State.{widthOf, userMode, enabled, usable, permitted, plus, minus}
-use Rattle.processor.specs.declared.answer.Answer.the-variants.{Completed}
+use Rattle.answers.specs.declared.answer.Answer.the-variants.{Completed}
 use Rattle.processor.specs.declared.state.State.{State}
-use Rattle.switches.specs.Saveprevssp.{carry}
-use Rattle.calls.specs.Call.{pushed, displaced, pushesFrame}
-use Rattle.replay.specs.Instruction.{oneOf, isQuad, sizeOf, wordsFit, lengthFits, narrow, modeFits, wellFormed}
-use Rattle.replay.specs.Permission.{writeBit, withoutWrite, withCet, hidden, shown}
-use Rattle.replay.specs.Exec.{operationOf, exec, perform}
-use Rattle.replay.specs.Codes.{target, framed, operationFrom9, operation, codes}
-use Rattle.replay.specs.declared.instruction.Instruction.{Instruction}
+use Rattle.saveprevssp.specs.Saveprevssp.{carry}
+use Rattle.call.specs.Call.{pushed, displaced, pushesFrame}
+use Rattle.instructions.specs.Instruction.{oneOf, isQuad, sizeOf, wordsFit, lengthFits, narrow, modeFits, wellFormed}
+use Rattle.instructions.specs.Permission.{writeBit, withoutWrite, withCet, hidden, shown}
+use Rattle.perform.specs.Exec.{operationOf, exec, perform}
+use Rattle.perform.specs.Codes.{target, framed, operationFrom9, operation, codes}
+use Rattle.instructions.specs.declared.instruction.Instruction.{Instruction}
 use Rattle.claims.specs.Ledger.{frameBytes, popped, isNextLine, pushedBy}
 use Rattle.claims.proofs.CodeNames.{Named, wrss, incssp, rstorssp, saveprevssp, call, ret, wruss, unknown, named}
 use Rattle.claims.proofs.Leaves.{Leaves, then-leaves, performed}

@@ -14,18 +14,18 @@ use mathlib.Core.List.{List}
 use mathlib.Core.Path.{_≡_, refl, sym, _∙_}
 use native.Mathlib.Decide.{ℕ-discrete}
 use native.Mathlib.Omega.{arith}
-use Rattle.memory.specs.Pages.{Lookup}
+use Rattle.pages.specs.Pages.{Lookup}
 use Rattle.processor.specs.Prog.{Step, Result, ended, broken, settle, interp, operate}
-use Rattle.processor.specs.declared.answer.Answer.{Answer}
-use Rattle.processor.specs.declared.answer.Answer.the-variants.{Completed, Refused, Faulted}
-use Rattle.processor.specs.declared.answer.Fault.{Fault}
-use Rattle.processor.specs.declared.answer.Refusal.{Refusal}
-use Rattle.processor.specs.declared.answer.Refusal.the-variants.{Instruction as BadForm}
+use Rattle.answers.specs.declared.answer.Answer.{Answer}
+use Rattle.answers.specs.declared.answer.Answer.the-variants.{Completed, Refused, Faulted}
+use Rattle.answers.specs.declared.answer.Fault.{Fault}
+use Rattle.answers.specs.declared.answer.Refusal.{Refusal}
+use Rattle.answers.specs.declared.answer.Refusal.the-variants.{Instruction as BadForm}
 use Rattle.processor.specs.declared.state.State.{State}
-use Rattle.replay.specs.Permission.{hidden}
-use Rattle.replay.specs.Exec.{InstructionSet, exec, refused, perform}
+use Rattle.instructions.specs.Permission.{hidden}
+use Rattle.perform.specs.Exec.{InstructionSet, exec, refused, perform}
 use Rattle.replay.specs.Run.{Run, endsAt, onward, runFrom, after}
-use Rattle.replay.specs.declared.instruction.Instruction.{Instruction}
+use Rattle.instructions.specs.declared.instruction.Instruction.{Instruction}
 use Rattle.claims.specs.Ends.{Unchanged, Counted}
 
 -- ---- answers

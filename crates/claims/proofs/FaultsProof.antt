@@ -12,7 +12,7 @@ use native.Mathlib.Omega.{arith}
 use lib.ListN.{length}
 use borrow.Author.Tests.{ne-eqb}
 use Rattle.memory.specs.Access.{probe, value, written}
-use Rattle.memory.specs.Pages.{Lookup, spot}
+use Rattle.pages.specs.Pages.{Lookup, spot}
 use Rattle.memory.specs.declared.access.Access.{Access}
 use Rattle.memory.specs.declared.access.Failure.{Failure}
 use Rattle.memory.specs.declared.access.Failure.the-variants.{NotCanonical, NotListed, WrongKind}
@@ -20,23 +20,23 @@ use Rattle.memory.specs.declared.access.Kind.{Kind}
 use Rattle.memory.specs.declared.access.Kind.the-variants.{UserShadow, SupervisorShadow, Ordinary}
 use Rattle.memory.specs.declared.access.Reach.{Reach}
 use Rattle.memory.specs.declared.access.Reach.the-variants.{Ready, Blocked}
-use Rattle.processor.specs.Accesses.{notCanonical, blame}
-use Rattle.processor.specs.Answer.{vectorNumber, plainFault, ud, ss, gp, pageFault, cpNearRet, cpRstorssp}
+use Rattle.answers.specs.Blame.{notCanonical, blame}
+use Rattle.answers.specs.Answer.{vectorNumber, plainFault, ud, ss, gp, pageFault, cpNearRet, cpRstorssp}
 use Rattle.processor.specs.Prog.{Prog, Result, ended, broken, onReach, interp, Step, settle, operate}
 use Rattle.processor.specs.State.{permitted, inRange}
-use Rattle.processor.specs.declared.answer.Answer.the-variants.{Refused, Faulted}
-use Rattle.processor.specs.declared.answer.Fault.{Fault}
-use Rattle.processor.specs.declared.answer.Refusal.{Refusal}
-use Rattle.processor.specs.declared.answer.Refusal.the-variants.{Instruction as BadForm}
-use Rattle.processor.specs.declared.answer.Vector.{Vector}
-use Rattle.processor.specs.declared.answer.Vector.the-variants.{InvalidOpcode, Stack, Protection}
+use Rattle.answers.specs.declared.answer.Answer.the-variants.{Refused, Faulted}
+use Rattle.answers.specs.declared.answer.Fault.{Fault}
+use Rattle.answers.specs.declared.answer.Refusal.{Refusal}
+use Rattle.answers.specs.declared.answer.Refusal.the-variants.{Instruction as BadForm}
+use Rattle.answers.specs.declared.answer.Vector.{Vector}
+use Rattle.answers.specs.declared.answer.Vector.the-variants.{InvalidOpcode, Stack, Protection}
 use Rattle.processor.specs.declared.state.State.{State}
-use Rattle.replay.specs.Instruction.{instructionAt, sizeOf}
-use Rattle.replay.specs.Permission.{hidden}
-use Rattle.replay.specs.Exec.{InstructionSet, operationOf, exec, refused, perform}
-use Rattle.replay.specs.Codes.{target, framed, operationFrom9, operation, codes}
+use Rattle.instructions.specs.Instruction.{instructionAt, sizeOf}
+use Rattle.instructions.specs.Permission.{hidden}
+use Rattle.perform.specs.Exec.{InstructionSet, operationOf, exec, refused, perform}
+use Rattle.perform.specs.Codes.{target, framed, operationFrom9, operation, codes}
 use Rattle.replay.specs.Run.{check, Run, run, after}
-use Rattle.replay.specs.declared.instruction.Instruction.{Instruction}
+use Rattle.instructions.specs.declared.instruction.Instruction.{Instruction}
 use Rattle.replay.specs.declared.steps.Tested.{Tested}
 use Rattle.replay.specs.declared.steps.Tested.the-variants.{Passed, Failed}
 use Rattle.claims.specs.Faults.{Numbered, FaultNumbers}

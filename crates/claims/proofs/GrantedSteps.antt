@@ -5,23 +5,23 @@ use mathlib.Core.Bool.{Bool, true, false, not, cond, _&&_, true≢false, and-eq-
 use mathlib.Core.List.{List}
 use mathlib.Core.Path.{_≡_, refl, sym, _∙_, ap}
 use borrow.Author.Tests.{not-true, not-false}
-use Rattle.memory.specs.Pages.{Lookup}
+use Rattle.pages.specs.Pages.{Lookup}
 use Rattle.memory.specs.declared.access.Size.{Size}
-use Rattle.processor.specs.Answer.{ud}
+use Rattle.answers.specs.Answer.{ud}
 use Rattle.processor.specs.State.{usable, permitted}
 use Rattle.processor.specs.Prog.{Prog, stop, _>>=_, interp, Step, operate}
-use Rattle.processor.specs.declared.answer.Answer.{Answer}
-use Rattle.processor.specs.declared.answer.Answer.the-variants.{Completed, Refused, Faulted}
-use Rattle.processor.specs.declared.answer.Refusal.the-variants.{Instruction as BadForm}
+use Rattle.answers.specs.declared.answer.Answer.{Answer}
+use Rattle.answers.specs.declared.answer.Answer.the-variants.{Completed, Refused, Faulted}
+use Rattle.answers.specs.declared.answer.Refusal.the-variants.{Instruction as BadForm}
 use Rattle.processor.specs.declared.state.State.{State}
 use Rattle.processor.proofs.Laws.{faults}
-use Rattle.replay.proofs.ExecLaws.{putBack, backFrom, put-back}
-use Rattle.shadow.specs.Wrss.{wrss}
-use Rattle.replay.specs.Instruction.{isWrss, sizeOf}
-use Rattle.replay.specs.Permission.{hidden}
-use Rattle.replay.specs.Exec.{InstructionSet, operationOf, exec, refused, perform}
+use Rattle.perform.proofs.ExecLaws.{putBack, backFrom, put-back}
+use Rattle.wrss.specs.Wrss.{wrss}
+use Rattle.instructions.specs.Instruction.{isWrss, sizeOf}
+use Rattle.instructions.specs.Permission.{hidden}
+use Rattle.perform.specs.Exec.{InstructionSet, operationOf, exec, refused, perform}
 use Rattle.replay.specs.Run.{endsAt}
-use Rattle.replay.specs.declared.instruction.Instruction.{Instruction}
+use Rattle.instructions.specs.declared.instruction.Instruction.{Instruction}
 use Rattle.claims.specs.MoreRights.{granted, isUd, notPermitted}
 use Rattle.claims.proofs.PermissionBits.{hidden-granted, shown-granted, still-permitted, usable-hidden}
 

@@ -4,15 +4,15 @@ use mathlib.Core.List.{List}
 use mathlib.Core.Path.{_≡_, refl, sym, subst}
 use native.Mathlib.Omega.{arith}
 use lib.ListN.{length}
-use Rattle.memory.specs.Pages.{Lookup, spot}
+use Rattle.pages.specs.Pages.{Lookup, spot}
 use Rattle.processor.specs.Prog.{Step}
 use Rattle.processor.specs.State.{inRange}
-use Rattle.processor.specs.declared.answer.Answer.the-variants.{Completed}
+use Rattle.answers.specs.declared.answer.Answer.the-variants.{Completed}
 use Rattle.processor.specs.declared.state.State.{State}
-use Rattle.replay.specs.Instruction.{instructionAt}
-use Rattle.replay.specs.Exec.{InstructionSet}
+use Rattle.instructions.specs.Instruction.{instructionAt}
+use Rattle.perform.specs.Exec.{InstructionSet}
 use Rattle.replay.specs.Run.{check, Run, run, after}
-use Rattle.replay.specs.declared.instruction.Instruction.{Instruction}
+use Rattle.instructions.specs.declared.instruction.Instruction.{Instruction}
 use Rattle.replay.specs.declared.steps.Tested.{Tested}
 use Rattle.replay.specs.declared.steps.Tested.the-variants.{Passed, Failed}
 use Rattle.claims.proofs.EndsProof.{refused-before, count-tied}

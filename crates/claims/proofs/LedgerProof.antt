@@ -4,16 +4,16 @@ use mathlib.Core.Bool.{cond}
 use mathlib.Core.Path.{_≡_, refl, _∙_, ap, subst}
 use lib.Dec.{eqb}
 use lib.ListN.{length}
-use Rattle.memory.specs.Address.{wrapped}
-use Rattle.memory.specs.Pages.{spot}
-use Rattle.memory.specs.declared.address.Width.{Width}
-use Rattle.memory.specs.declared.address.Width.the-variants.{Bits32, Bits64}
+use Rattle.pages.specs.Address.{wrapped}
+use Rattle.pages.specs.Pages.{spot}
+use Rattle.pages.specs.declared.address.Width.{Width}
+use Rattle.pages.specs.declared.address.Width.the-variants.{Bits32, Bits64}
 use Rattle.processor.specs.State.{widthOf}
 use Rattle.processor.specs.declared.state.State.{State}
-use Rattle.replay.specs.Instruction.{instructionAt}
-use Rattle.replay.specs.Codes.{codes}
+use Rattle.instructions.specs.Instruction.{instructionAt}
+use Rattle.perform.specs.Codes.{codes}
 use Rattle.replay.specs.Run.{after}
-use Rattle.replay.specs.declared.instruction.Instruction.{Instruction}
+use Rattle.instructions.specs.declared.instruction.Instruction.{Instruction}
 use Rattle.claims.specs.Ledger.{popped, pushedBy, sumOf, Ledger}
 use Rattle.claims.proofs.KeptAlong.{run-keeps}
 use Rattle.claims.proofs.Completions.{Completes, completion}

@@ -19,7 +19,6 @@ pub mod LedgerProof
 pub mod RangesProof
 pub mod FaultsProof
 pub mod NextLineProof
-pub mod WorkedProof
 pub mod Promised
 mod Counts
 mod Beside

@@ -6,23 +6,23 @@ use mathlib.Core.Path.{_≡_, refl, sym, _∙_}
 use lib.ListN.{length}
 use Rattle.memory.specs.Access.{probe, value, written}
 use Rattle.memory.specs.Extends.{Places, HoldsPages}
-use Rattle.memory.specs.Pages.{Lookup, listing, spot}
+use Rattle.pages.specs.Pages.{Lookup, listing, spot}
 use Rattle.memory.specs.declared.access.Access.{Access}
 use Rattle.memory.specs.declared.access.Reach.{Reach}
 use Rattle.memory.specs.declared.access.Reach.the-variants.{Ready, Blocked}
-use Rattle.memory.specs.declared.pages.Listing.the-variants.{Valid}
+use Rattle.pages.specs.declared.pages.Listing.the-variants.{Valid}
 use Rattle.memory.proofs.Laws.{spot-places, same-value, alike-probe, order-free as same-cells}
 use Rattle.processor.specs.Prog.{Prog, done, stop, fetch, put, Result, onReach, interp, settle, operate}
 use Rattle.processor.specs.State.{inRange}
-use Rattle.processor.specs.declared.answer.Answer.{Answer}
-use Rattle.processor.specs.declared.answer.Answer.the-variants.{Completed}
-use Rattle.processor.specs.declared.answer.Refusal.the-variants.{Instruction as BadForm}
+use Rattle.answers.specs.declared.answer.Answer.{Answer}
+use Rattle.answers.specs.declared.answer.Answer.the-variants.{Completed}
+use Rattle.answers.specs.declared.answer.Refusal.the-variants.{Instruction as BadForm}
 use Rattle.processor.specs.declared.state.State.{State}
-use Rattle.replay.specs.Instruction.{instructionAt}
-use Rattle.replay.specs.Permission.{hidden}
-use Rattle.replay.specs.Exec.{InstructionSet, exec, refused, perform}
+use Rattle.instructions.specs.Instruction.{instructionAt}
+use Rattle.instructions.specs.Permission.{hidden}
+use Rattle.perform.specs.Exec.{InstructionSet, exec, refused, perform}
 use Rattle.replay.specs.Run.{check, Run, run, after}
-use Rattle.replay.specs.declared.instruction.Instruction.{Instruction}
+use Rattle.instructions.specs.declared.instruction.Instruction.{Instruction}
 use Rattle.replay.specs.declared.steps.Tested.{Tested}
 use Rattle.replay.specs.declared.steps.Tested.the-variants.{Passed, Failed}
 use Rattle.claims.specs.Ends.{Counted}

@@ -6,17 +6,17 @@ use mathlib.Core.Path.{_≡_, refl, sym, _∙_}
 use native.Mathlib.Omega.{arith}
 use lib.ListN.{length}
 use Rattle.memory.specs.Extends.{HoldsPages}
-use Rattle.memory.specs.Pages.{Lookup, listing, spot}
-use Rattle.memory.specs.declared.pages.Listing.the-variants.{Valid}
+use Rattle.pages.specs.Pages.{Lookup, listing, spot}
+use Rattle.pages.specs.declared.pages.Listing.the-variants.{Valid}
 use Rattle.memory.proofs.Laws.{spot-places, pages-extend, extends-pages}
 use Rattle.processor.specs.Prog.{Step}
 use Rattle.processor.specs.State.{inRange}
-use Rattle.processor.specs.declared.answer.Answer.{Answer}
-use Rattle.processor.specs.declared.answer.Answer.the-variants.{Completed}
-use Rattle.processor.specs.declared.answer.Refusal.{Refusal}
+use Rattle.answers.specs.declared.answer.Answer.{Answer}
+use Rattle.answers.specs.declared.answer.Answer.the-variants.{Completed}
+use Rattle.answers.specs.declared.answer.Refusal.{Refusal}
 use Rattle.processor.specs.declared.state.State.{State}
-use Rattle.replay.specs.Instruction.{instructionAt}
-use Rattle.replay.specs.Exec.{InstructionSet, refused}
+use Rattle.instructions.specs.Instruction.{instructionAt}
+use Rattle.perform.specs.Exec.{InstructionSet, refused}
 use Rattle.replay.specs.Run.{check, Run, endsAt, run, after}
 use Rattle.replay.specs.declared.steps.Tested.{Tested}
 use Rattle.replay.specs.declared.steps.Tested.the-variants.{Passed, Failed}

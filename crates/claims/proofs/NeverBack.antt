@@ -2,14 +2,14 @@
 use Prim.Native.Nat.{ℕ, zero, suc, _≤_}
 use mathlib.Core.List.{List}
 use native.Mathlib.Omega.{arith}
-use Rattle.memory.specs.Pages.{Lookup}
+use Rattle.pages.specs.Pages.{Lookup}
 use Rattle.processor.specs.Prog.{Step}
-use Rattle.processor.specs.declared.answer.Answer.{Answer}
-use Rattle.processor.specs.declared.answer.Answer.the-variants.{Completed, Refused, Faulted}
+use Rattle.answers.specs.declared.answer.Answer.{Answer}
+use Rattle.answers.specs.declared.answer.Answer.the-variants.{Completed, Refused, Faulted}
 use Rattle.processor.specs.declared.state.State.{State}
-use Rattle.replay.specs.Exec.{InstructionSet, perform}
+use Rattle.perform.specs.Exec.{InstructionSet, perform}
 use Rattle.replay.specs.Run.{Run, endsAt, onward, runFrom}
-use Rattle.replay.specs.declared.instruction.Instruction.{Instruction}
+use Rattle.instructions.specs.declared.instruction.Instruction.{Instruction}
 
 -- a run that has come to the k-th instruction ends there or later
 pub onward-count : (k : ℕ) (answer : Answer) (more : Run) (now : Step) → k ≤ more .count → k ≤ onward answer more (endsAt k now) .count

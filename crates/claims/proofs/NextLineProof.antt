@@ -8,22 +8,22 @@ use lib.ListN.{length as count}
 use lib.IntN.{ℤ, pos, negsuc}
 use Rattle.memory.specs.Access.{byteCount, probe, written}
 use Rattle.memory.specs.Extends.{Places, cell}
-use Rattle.memory.specs.Pages.{Lookup}
+use Rattle.pages.specs.Pages.{Lookup}
 use Rattle.memory.specs.declared.access.Access.{Access}
 use Rattle.memory.specs.declared.access.Reach.{Reach}
 use Rattle.memory.specs.declared.access.Reach.the-variants.{Ready, Blocked}
 use Rattle.processor.specs.Accesses.{ordinary}
-use Rattle.processor.specs.Answer.{ss, gp}
+use Rattle.answers.specs.Answer.{ss, gp}
 use Rattle.processor.specs.Prog.{Prog, done, _>>=_, _>>_, store, unless, Result, ended, onReach, interp, Step, settle, operate}
 use Rattle.processor.specs.State.{enabled, plus, minus, next, withIp, withSp}
-use Rattle.processor.specs.declared.answer.Refusal.the-variants.{Instruction as BadForm}
+use Rattle.answers.specs.declared.answer.Refusal.the-variants.{Instruction as BadForm}
 use Rattle.processor.specs.declared.state.State.{State}
-use Rattle.calls.specs.Call.{displacement, moved, relative, displaced, inCode, pushed, runsPast, pushesFrame, call}
-use Rattle.replay.specs.Instruction.{oneOf, wellFormed}
-use Rattle.replay.specs.Permission.{hidden, shown}
-use Rattle.replay.specs.Exec.{operationOf, exec, refused, perform}
-use Rattle.replay.specs.Codes.{target, framed, operation, codes}
-use Rattle.replay.specs.declared.instruction.Instruction.{Instruction}
+use Rattle.call.specs.Call.{displacement, moved, relative, displaced, inCode, pushed, runsPast, pushesFrame, call}
+use Rattle.instructions.specs.Instruction.{oneOf, wellFormed}
+use Rattle.instructions.specs.Permission.{hidden, shown}
+use Rattle.perform.specs.Exec.{operationOf, exec, refused, perform}
+use Rattle.perform.specs.Codes.{target, framed, operation, codes}
+use Rattle.instructions.specs.declared.instruction.Instruction.{Instruction}
 use Rattle.claims.specs.NextLine.{isOrdinary, SameOrdinary, withShadow, SameNextLine, NextLineUntouched}
 use Rattle.claims.proofs.OtherKinds.{tried-alike, kept-elsewhere}
 

@@ -8,17 +8,17 @@ use borrow.Author.Tests.{leb-true, eqb-true}
 use Rattle.memory.specs.Access.{byteCount}
 use Rattle.memory.specs.declared.access.Size.{Size}
 use Rattle.memory.specs.declared.access.Size.the-variants.{Four, Eight}
-use Rattle.processor.specs.Answer.{ud, ss, gp, cpNearRet, cpRstorssp}
+use Rattle.answers.specs.Answer.{ud, ss, gp, cpNearRet, cpRstorssp}
 use Rattle.processor.specs.State.{isLong, widthOf, enabled, usable, plus, minus, next, withIp}
 use Rattle.processor.specs.Prog.{done}
 use Rattle.processor.specs.declared.state.State.{State}
-use Rattle.shadow.specs.Incssp.{incssp}
-use Rattle.shadow.specs.Wrss.{wrss}
-use Rattle.shadow.specs.Wruss.{recognised, wruss}
-use Rattle.switches.specs.Rstorssp.{goodToken, rstorssp}
-use Rattle.switches.specs.Saveprevssp.{carry, popHole, newTop, savedToken, leaveToken, saveprevssp}
-use Rattle.calls.specs.Call.{inCode, pushed, runsPast, pushesFrame, call}
-use Rattle.calls.specs.Ret.{popFrame, newSsp, ret}
+use Rattle.incssp.specs.Incssp.{incssp}
+use Rattle.wrss.specs.Wrss.{wrss}
+use Rattle.wruss.specs.Wruss.{recognised, wruss}
+use Rattle.rstorssp.specs.Rstorssp.{goodToken, rstorssp}
+use Rattle.saveprevssp.specs.Saveprevssp.{carry, popHole, newTop, savedToken, leaveToken, saveprevssp}
+use Rattle.call.specs.Call.{inCode, pushed, runsPast, pushesFrame, call}
+use Rattle.ret.specs.Ret.{popFrame, newSsp, ret}
 use Rattle.claims.proofs.Leaves.{either, Leaves, then-leaves, all-leaves, tested-leaves}
 use Rattle.claims.proofs.PointerSums.{plus-below, minus-below, plus-aligned, minus-aligned, bytes-aligned}
 use Rattle.claims.proofs.RangeParts.{InRange}

@@ -8,18 +8,18 @@ use lib.Dec.{eqb, ltb}
 use Rattle.memory.specs.Access.{byteCount}
 use Rattle.memory.specs.declared.access.Access.{Access}
 use Rattle.memory.specs.declared.access.Size.{Size}
-use Rattle.processor.specs.Answer.{ud, ss, gp, cpNearRet, cpRstorssp}
+use Rattle.answers.specs.Answer.{ud, ss, gp, cpNearRet, cpRstorssp}
 use Rattle.processor.specs.Prog.{Prog, done, stop, fetch, put, _>>=_, _>>_, unless}
 use Rattle.processor.specs.State.{isLong, enabled, usable, minus}
-use Rattle.processor.specs.declared.answer.Fault.{Fault}
+use Rattle.answers.specs.declared.answer.Fault.{Fault}
 use Rattle.processor.specs.declared.state.State.{State}
-use Rattle.shadow.specs.Incssp.{incssp}
-use Rattle.shadow.specs.Wrss.{wrss}
-use Rattle.shadow.specs.Wruss.{recognised, wruss}
-use Rattle.switches.specs.Rstorssp.{goodToken, rstorssp}
-use Rattle.switches.specs.Saveprevssp.{carry, popHole, newTop, savedToken, leaveToken, saveprevssp}
-use Rattle.calls.specs.Call.{inCode, pushed, runsPast, pushesFrame, call}
-use Rattle.calls.specs.Ret.{popFrame, newSsp, ret}
+use Rattle.incssp.specs.Incssp.{incssp}
+use Rattle.wrss.specs.Wrss.{wrss}
+use Rattle.wruss.specs.Wruss.{recognised, wruss}
+use Rattle.rstorssp.specs.Rstorssp.{goodToken, rstorssp}
+use Rattle.saveprevssp.specs.Saveprevssp.{carry, popHole, newTop, savedToken, leaveToken, saveprevssp}
+use Rattle.call.specs.Call.{inCode, pushed, runsPast, pushesFrame, call}
+use Rattle.ret.specs.Ret.{popFrame, newSsp, ret}
 use Rattle.claims.proofs.Leaves.{either}
 
 -- ---- the faults that a program itself stops with

@@ -8,17 +8,17 @@ use lib.Dec.{eqb}
 use lib.ListN.{length}
 use borrow.Author.Tests.{eqb-true}
 use Rattle.memory.specs.Access.{andThen, scan, onKind, listedByte, canonicalBytes, listedBytes, start, byteCount, probe, written}
-use Rattle.memory.specs.Address.{plus}
+use Rattle.pages.specs.Address.{plus}
 use Rattle.memory.specs.Extends.{absent, present, cellIn, cell, Extends, Places}
-use Rattle.memory.specs.Pages.{Lookup}
+use Rattle.pages.specs.Pages.{Lookup}
 use Rattle.memory.specs.declared.access.Access.{Access}
 use Rattle.memory.specs.declared.access.Failure.the-variants.{WrongKind}
 use Rattle.memory.specs.declared.access.Reach.{Reach}
 use Rattle.memory.specs.declared.access.Reach.the-variants.{Ready, Blocked}
 use Rattle.memory.specs.declared.access.Size.{Size}
-use Rattle.memory.specs.declared.address.Width.{Width}
-use Rattle.memory.specs.declared.pages.Spot.{Spot}
-use Rattle.memory.specs.declared.pages.Spot.the-variants.{Unlisted, At}
+use Rattle.pages.specs.declared.address.Width.{Width}
+use Rattle.pages.specs.declared.pages.Spot.{Spot}
+use Rattle.pages.specs.declared.pages.Spot.the-variants.{Unlisted, At}
 use Rattle.memory.proofs.Laws.{alike-probe, store-in-both}
 use Rattle.processor.specs.Accesses.{ordinary}
 use Rattle.processor.specs.Prog.{Result, ended, onReach}

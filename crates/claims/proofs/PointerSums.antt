@@ -4,11 +4,11 @@ use mathlib.Core.Path.{_≡_, sym, _∙_, ap}
 use native.Mathlib.Nat.{mod-add-mod}
 use native.Mathlib.Omega.{arith}
 use Rattle.memory.specs.Access.{byteCount}
-use Rattle.memory.specs.Address.{modulus, wrapped, plus, minus}
+use Rattle.pages.specs.Address.{modulus, wrapped, plus, minus}
 use Rattle.memory.specs.declared.access.Size.{Size}
 use Rattle.memory.specs.declared.access.Size.the-variants.{Four, Eight}
-use Rattle.memory.specs.declared.address.Width.{Width}
-use Rattle.memory.specs.declared.address.Width.the-variants.{Bits32, Bits64}
+use Rattle.pages.specs.declared.address.Width.{Width}
+use Rattle.pages.specs.declared.address.Width.the-variants.{Bits32, Bits64}
 
 -- ---- below 2^32, at the width of 32 bits
 

@@ -8,7 +8,7 @@ use Rattle.claims.proofs.LedgerProof.{ledger}
 use Rattle.claims.proofs.RangesProof.{stays-in-range, run-stays-in-range}
 use Rattle.claims.proofs.FaultsProof.{fault-numbers}
 use Rattle.claims.proofs.NextLineProof.{same-next-line, next-line-untouched}
-use Rattle.claims.proofs.WorkedProof.{worked, worked-returns}
+use Rattle.worked.proofs.WorkedProof.{worked, worked-returns}
 
 pub demand-1 : Demand1
 demand-1 = record {

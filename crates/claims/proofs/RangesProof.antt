@@ -2,10 +2,10 @@
 use mathlib.Core.Bool.{true}
 use mathlib.Core.Path.{_≡_}
 use lib.ListN.{length}
-use Rattle.memory.specs.Pages.{spot}
+use Rattle.pages.specs.Pages.{spot}
 use Rattle.processor.specs.State.{inRange}
-use Rattle.replay.specs.Instruction.{instructionAt}
-use Rattle.replay.specs.Codes.{codes}
+use Rattle.instructions.specs.Instruction.{instructionAt}
+use Rattle.perform.specs.Codes.{codes}
 use Rattle.replay.specs.Run.{after}
 use Rattle.claims.specs.Ranges.{StaysInRange, RunStaysInRange}
 use Rattle.claims.proofs.KeptAlong.{run-keeps}

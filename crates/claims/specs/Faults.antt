@@ -4,14 +4,14 @@ use mathlib.Core.Path.{_≡_}
 use mathlib.Core.Bool.{true, cond, _||_}
 use mathlib.Core.List.{List}
 use lib.Dec.{eqb}
-use Rattle.processor.specs.Answer.{vectorNumber}
-use Rattle.processor.specs.declared.answer.Answer.the-variants.{Faulted}
-use Rattle.processor.specs.declared.answer.Fault.{Fault}
+use Rattle.answers.specs.Answer.{vectorNumber}
+use Rattle.answers.specs.declared.answer.Answer.the-variants.{Faulted}
+use Rattle.answers.specs.declared.answer.Fault.{Fault}
 use Rattle.processor.specs.declared.state.State.{State}
-use Rattle.replay.specs.Codes.{codes}
-use Rattle.replay.specs.Instruction.{instructionAt, isRet}
+use Rattle.perform.specs.Codes.{codes}
+use Rattle.instructions.specs.Instruction.{instructionAt, isRet}
 use Rattle.replay.specs.Run.{Run, run}
-use Rattle.replay.specs.declared.instruction.Instruction.{Instruction}
+use Rattle.instructions.specs.declared.instruction.Instruction.{Instruction}
 
 -- The fault of an instruction. #CP (21) comes of RSTORSSP, with error code 4, and of RET, with 1, and of no other; any other fault has error
 -- code 0. The address is 0 but for #PF (14).

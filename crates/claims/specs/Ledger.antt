@@ -6,16 +6,16 @@ use mathlib.Core.List.{List}
 use lib.ListN.{length}
 use lib.Dec.{eqb}
 use Rattle.memory.specs.Access.{byteCount}
-use Rattle.memory.specs.Address.{wrapped}
-use Rattle.memory.specs.Pages.{spot}
+use Rattle.pages.specs.Address.{wrapped}
+use Rattle.pages.specs.Pages.{spot}
 use Rattle.processor.specs.State.{enabled, widthOf}
 use Rattle.processor.specs.declared.state.State.{State}
-use Rattle.switches.specs.Saveprevssp.{carry}
-use Rattle.calls.specs.Call.{pushed}
-use Rattle.replay.specs.Instruction.{instructionAt, isIncssp, isCall, isRet, sizeOf}
-use Rattle.replay.specs.Codes.{codes}
+use Rattle.saveprevssp.specs.Saveprevssp.{carry}
+use Rattle.call.specs.Call.{pushed}
+use Rattle.instructions.specs.Instruction.{instructionAt, isIncssp, isCall, isRet, sizeOf}
+use Rattle.perform.specs.Codes.{codes}
 use Rattle.replay.specs.Run.{Run, run, after}
-use Rattle.replay.specs.declared.instruction.Instruction.{Instruction}
+use Rattle.instructions.specs.declared.instruction.Instruction.{Instruction}
 
 -- bytes of a frame, where the shadow stack is enabled, and otherwise 0
 unfoldable pub frameBytes : State → ℕ

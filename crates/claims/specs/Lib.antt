@@ -12,6 +12,4 @@ pub mod Ledger
 pub mod Ranges
 pub mod Faults
 pub mod NextLine
-pub mod Worked
-pub mod WorkedReturns
 pub mod Promises

@@ -3,11 +3,11 @@ use Prim.Native.Nat.{ℕ}
 use mathlib.Core.Path.{_≡_}
 use mathlib.Core.List.{List}
 use lib.ListN.{length}
-use Rattle.memory.specs.Pages.{listing}
+use Rattle.pages.specs.Pages.{listing}
 use Rattle.memory.specs.Extends.{HoldsPages}
-use Rattle.memory.specs.declared.pages.Listing.the-variants.{Valid}
+use Rattle.pages.specs.declared.pages.Listing.the-variants.{Valid}
 use Rattle.processor.specs.declared.state.State.{State}
-use Rattle.replay.specs.Exec.{InstructionSet}
+use Rattle.perform.specs.Exec.{InstructionSet}
 use Rattle.replay.specs.Run.{Run, run}
 
 -- two runs over the same pages in another order end alike: count, answer, registers, and each page's bytes

@@ -5,15 +5,15 @@ use mathlib.Core.Bool.{Bool, true, false}
 use mathlib.Core.List.{List}
 use lib.ListN.{length}
 use lib.Dec.{eqb}
-use Rattle.memory.specs.Pages.{listing, spot}
+use Rattle.pages.specs.Pages.{listing, spot}
 use Rattle.memory.specs.Extends.{HoldsPages, Untouched}
-use Rattle.memory.specs.declared.pages.Listing.the-variants.{Valid}
-use Rattle.processor.specs.Answer.{reportOf}
+use Rattle.pages.specs.declared.pages.Listing.the-variants.{Valid}
+use Rattle.answers.specs.Answer.{reportOf}
 use Rattle.processor.specs.Prog.{Step}
-use Rattle.processor.specs.declared.answer.Answer.{Answer}
+use Rattle.answers.specs.declared.answer.Answer.{Answer}
 use Rattle.processor.specs.declared.state.State.{State}
-use Rattle.replay.specs.Instruction.{instructionAt}
-use Rattle.replay.specs.Exec.{InstructionSet}
+use Rattle.instructions.specs.Instruction.{instructionAt}
+use Rattle.perform.specs.Exec.{InstructionSet}
 use Rattle.replay.specs.Run.{Run, run, after}
 
 -- the answer is a page fault: its vector is 14

@@ -5,17 +5,17 @@ use mathlib.Core.Bool.{Bool, true, false, not, cond, _&&_}
 use mathlib.Core.List.{List}
 use lib.ListN.{length}
 use lib.Dec.{eqb}
-use Rattle.memory.specs.Pages.{spot}
-use Rattle.processor.specs.Answer.{reportOf}
+use Rattle.pages.specs.Pages.{spot}
+use Rattle.answers.specs.Answer.{reportOf}
 use Rattle.processor.specs.Prog.{Step}
 use Rattle.processor.specs.State.{usable, permitted}
-use Rattle.processor.specs.declared.answer.Answer.{Answer}
+use Rattle.answers.specs.declared.answer.Answer.{Answer}
 use Rattle.processor.specs.declared.state.State.{State}
-use Rattle.replay.specs.Instruction.{instructionAt, isWrss}
-use Rattle.replay.specs.Permission.{withoutWrite, withCet}
-use Rattle.replay.specs.Exec.{InstructionSet}
+use Rattle.instructions.specs.Instruction.{instructionAt, isWrss}
+use Rattle.instructions.specs.Permission.{withoutWrite, withCet}
+use Rattle.perform.specs.Exec.{InstructionSet}
 use Rattle.replay.specs.Run.{Run, run, after}
-use Rattle.replay.specs.declared.instruction.Instruction.{Instruction}
+use Rattle.instructions.specs.declared.instruction.Instruction.{Instruction}
 
 -- a CET register with bit 1 set where this is asked
 abbrev pub switchedOn : Bool → ℕ → ℕ

@@ -7,14 +7,14 @@ use mathlib.Core.List.{List}
 use lib.Dec.{eqb}
 use lib.ListN.{length}
 use Rattle.memory.specs.Extends.{Places, cell}
-use Rattle.memory.specs.Pages.{Lookup}
-use Rattle.memory.specs.declared.pages.Spot.{Spot}
-use Rattle.memory.specs.declared.pages.Spot.the-variants.{Unlisted, At}
+use Rattle.pages.specs.Pages.{Lookup}
+use Rattle.pages.specs.declared.pages.Spot.{Spot}
+use Rattle.pages.specs.declared.pages.Spot.the-variants.{Unlisted, At}
 use Rattle.processor.specs.Prog.{Step}
 use Rattle.processor.specs.declared.state.State.{State}
-use Rattle.replay.specs.Exec.{perform}
-use Rattle.replay.specs.Codes.{codes}
-use Rattle.replay.specs.declared.instruction.Instruction.{Instruction}
+use Rattle.perform.specs.Exec.{perform}
+use Rattle.perform.specs.Codes.{codes}
+use Rattle.instructions.specs.declared.instruction.Instruction.{Instruction}
 
 -- an address leads to an ordinary page
 abbrev pub isOrdinary : Spot → Bool

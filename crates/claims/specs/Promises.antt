@@ -8,8 +8,8 @@ use Rattle.claims.specs.Ledger.{Ledger}
 use Rattle.claims.specs.Ranges.{StaysInRange, RunStaysInRange}
 use Rattle.claims.specs.Faults.{FaultNumbers}
 use Rattle.claims.specs.NextLine.{SameNextLine, NextLineUntouched}
-use Rattle.claims.specs.Worked.{Worked}
-use Rattle.claims.specs.WorkedReturns.{WorkedReturns}
+use Rattle.worked.specs.Worked.{Worked}
+use Rattle.worked.specs.WorkedReturns.{WorkedReturns}
 
 -- what is malformed is refused, nothing is lost, and every run ends
 pub record Demand1 : Type 0 where

@@ -3,14 +3,14 @@ use Prim.Native.Nat.{ℕ}
 use mathlib.Core.Path.{_≡_}
 use mathlib.Core.Bool.{true}
 use mathlib.Core.List.{List}
-use Rattle.memory.specs.Pages.{Lookup}
+use Rattle.pages.specs.Pages.{Lookup}
 use Rattle.processor.specs.State.{inRange}
-use Rattle.processor.specs.declared.answer.Answer.the-variants.{Completed}
+use Rattle.answers.specs.declared.answer.Answer.the-variants.{Completed}
 use Rattle.processor.specs.declared.state.State.{State}
-use Rattle.replay.specs.Codes.{codes}
-use Rattle.replay.specs.Exec.{perform}
+use Rattle.perform.specs.Codes.{codes}
+use Rattle.perform.specs.Exec.{perform}
 use Rattle.replay.specs.Run.{run}
-use Rattle.replay.specs.declared.instruction.Instruction.{Instruction}
+use Rattle.instructions.specs.declared.instruction.Instruction.{Instruction}
 
 -- over every completed instruction
 abbrev pub StaysInRange : Type 0

@@ -5,9 +5,9 @@ use mathlib.Core.Path.{_≡_, _∙_, ap}
 use native.Mathlib.Omega.{arith}
 use lib.ListN.{length, getD, set, drop-of-length-le}
 use lib.Seq.{paste, paste-suc, length-paste, take-length}
-use Rattle.processor.specs.Answer.{vectorNumber}
-use Rattle.processor.specs.declared.answer.Vector.{Vector}
-use Rattle.processor.specs.declared.answer.Vector.the-variants.{InvalidOpcode, Stack, Protection, Page, Control}
+use Rattle.answers.specs.Answer.{vectorNumber}
+use Rattle.answers.specs.declared.answer.Vector.{Vector}
+use Rattle.answers.specs.declared.answer.Vector.the-variants.{InvalidOpcode, Stack, Protection, Page, Control}
 use Rattle.driftpocket.specs.Crossing.{over}
 
 -- ---- a copy of the first i words

@@ -4,13 +4,13 @@ use mathlib.Core.Bool.{false, cond}
 use mathlib.Core.List.{List, [], _∷_, _++_}
 use lib.ListN.{length, drop}
 use lib.Dec.{eqb, ltb}
-use Rattle.processor.specs.Answer.{vectorNumber, refusalNumber, reportOf}
-use Rattle.processor.specs.declared.answer.Answer.{Answer}
-use Rattle.processor.specs.declared.answer.Answer.the-variants.{Completed, Refused, Faulted}
-use Rattle.processor.specs.declared.answer.Report.{Report}
+use Rattle.answers.specs.Answer.{vectorNumber, refusalNumber, reportOf}
+use Rattle.answers.specs.declared.answer.Answer.{Answer}
+use Rattle.answers.specs.declared.answer.Answer.the-variants.{Completed, Refused, Faulted}
+use Rattle.answers.specs.declared.answer.Report.{Report}
 use Rattle.processor.specs.declared.state.State.{State}
-use Rattle.replay.specs.Layout.{stateOf}
-use Rattle.replay.specs.Codes.{codes}
+use Rattle.instructions.specs.Layout.{stateOf}
+use Rattle.perform.specs.Codes.{codes}
 use Rattle.replay.specs.Run.{check, Run, run}
 use Rattle.replay.specs.declared.steps.Tested.{Tested}
 use Rattle.replay.specs.declared.steps.Tested.the-variants.{Passed, Failed}

@@ -5,7 +5,7 @@ ghost use mathlib.Core.Bool.{false};
 ghost use mathlib.Core.Path.{_≡_};
 ghost use lib.ListN.{length as count};
 ghost use Rattle.driftpocket.specs.Crossing.{stateWords, reportWords, over, numberOf as numberFor, testedAs, answered, crossed};
-ghost use Rattle.processor.specs.Answer.{reportOf};
+ghost use Rattle.answers.specs.Answer.{reportOf};
 ghost use Rattle.replay.specs.Run.{check as checkOf};
 use processor::Answer;
 use processor::State;

@@ -5,7 +5,7 @@ use mathlib.Core.Bool.{cond}
 use mathlib.Core.List.{List, [], _∷_}
 use lib.ListN.{length, getD}
 use lib.Dec.{ltb}
-use Rattle.processor.specs.Answer.{refusalNumber}
+use Rattle.answers.specs.Answer.{refusalNumber}
 use Rattle.sheet.specs.Buffers.{laid}
 use Rattle.sheet_read.specs.Reads.{Buffers, Read, reads}
 use Rattle.sheet_read.specs.declared.buffers.Sizes.{Sizes}

@@ -7,7 +7,7 @@ use native.Mathlib.Omega.{arith}
 use Rattle.memory.specs.Access.{byteCount, isReady, andThen, probe, value, loadedIf, load, written, storedIf, store}
 use Rattle.memory.specs.declared.access.Size.{Size}
 use Rattle.memory.specs.declared.access.Size.the-variants.{Four, Eight}
-use Rattle.memory.specs.Pages.{Lookup}
+use Rattle.pages.specs.Pages.{Lookup}
 use Rattle.memory.specs.declared.access.Access.{Access}
 use Rattle.memory.specs.declared.access.Failure.{Failure}
 use Rattle.memory.specs.declared.access.Reach.{Reach}

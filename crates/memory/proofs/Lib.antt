@@ -2,7 +2,6 @@
 pub mod Laws
 mod Answers
 mod Cells
-mod KindTests
 mod Lookup
 mod Numbers
 mod OnePage
@@ -11,6 +10,5 @@ mod PageParts
 mod Parts
 mod Steps
 mod Stored
-mod Sums
 mod TwoMemories
 mod Valid

@@ -8,9 +8,9 @@ use native.Mathlib.Omega.{arith}
 use lib.ListN.{length, getD}
 use lib.Dec.{ltb}
 use borrow.Author.Tests.{ltb-true, eqb-true}
-use Rattle.memory.specs.Pages.{pageBytes, pageOf, kindOf, onPage, inPage, spotFrom, spot}
+use Rattle.pages.specs.Pages.{pageBytes, pageOf, kindOf, onPage, inPage, spotFrom, spot}
 use Rattle.memory.specs.Extends.{Places}
-use Rattle.memory.specs.declared.pages.Spot.the-variants.{Unlisted, At}
+use Rattle.pages.specs.declared.pages.Spot.the-variants.{Unlisted, At}
 
 -- the entry that an address is found by: the j-th of the list
 pub record Found (pages : List ℕ) (i lent address kind place : ℕ) : Type 0 where

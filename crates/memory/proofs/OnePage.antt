@@ -9,14 +9,14 @@ use native.Mathlib.Omega.{arith}
 use lib.ListN.{set}
 use lib.Dec.{ltb, leb}
 use borrow.Author.Tests.{leb-true, leb-false}
-use Rattle.memory.specs.Address.{plus, canonical}
-use Rattle.memory.specs.Pages.{Lookup, pageBytes, pageOf, kindOf, onPage, inPage, spotFrom, spot}
+use Rattle.pages.specs.Address.{plus, canonical}
+use Rattle.pages.specs.Pages.{Lookup, pageBytes, pageOf, kindOf, onPage, inPage, spotFrom, spot}
 use Rattle.memory.specs.Access.{kindNumber, byteCount, andThen, scan, canonicalByte, listedByte, start, canonicalBytes, listedBytes, probe, byteIn, number, value, load, write, written, store}
 use Rattle.memory.specs.OnePage.{onePage, further, OnLentPage, locatedIf, within, located, firstReach, firstLocated, numberAt, putAt}
-use Rattle.memory.specs.declared.address.Width.{Width}
-use Rattle.memory.specs.declared.address.Width.the-variants.{Bits32, Bits64}
-use Rattle.memory.specs.declared.pages.Spot.{Spot}
-use Rattle.memory.specs.declared.pages.Spot.the-variants.{Unlisted, At}
+use Rattle.pages.specs.declared.address.Width.{Width}
+use Rattle.pages.specs.declared.address.Width.the-variants.{Bits32, Bits64}
+use Rattle.pages.specs.declared.pages.Spot.{Spot}
+use Rattle.pages.specs.declared.pages.Spot.the-variants.{Unlisted, At}
 use Rattle.memory.specs.declared.access.Size.{Size}
 use Rattle.memory.specs.declared.access.Access.{Access}
 use Rattle.memory.specs.declared.access.Failure.the-variants.{NotCanonical}
@@ -29,7 +29,7 @@ use Rattle.memory.proofs.Answers.{at-least-four, at-most-eight, load-do
 use Rattle.memory.proofs.Cells.{reached}
 use Rattle.memory.proofs.Lookup.{behind, spot-page}
 use Rattle.memory.proofs.Steps.{scan-turn}
-use Rattle.memory.proofs.Sums.{Wrapped, wrapped-plus, wrapped-start, one-on}
+use Rattle.pages.proofs.Sums.{Wrapped, wrapped-plus, wrapped-start, one-on}
 
 -- ---- one page, one entry
 

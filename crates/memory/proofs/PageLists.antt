@@ -6,9 +6,9 @@ use mathlib.Core.List.{List}
 use native.Mathlib.Omega.{arith}
 use lib.ListN.{length, getD, drop, length-take, length-drop}
 use lib.Seq.{getD-take, getD-drop, ext-getD}
-use Rattle.memory.specs.Pages.{pageBytes, pageOf, kindOf, onPage, anyEntry, listing, spot}
+use Rattle.pages.specs.Pages.{pageBytes, pageOf, kindOf, onPage, anyEntry, listing, spot}
 use Rattle.memory.specs.Extends.{Cell, absent, present, cell, Extends, pageAt, HoldsPages, Untouched}
-use Rattle.memory.specs.declared.pages.Listing.the-variants.{Valid}
+use Rattle.pages.specs.declared.pages.Listing.the-variants.{Valid}
 use Rattle.memory.proofs.Cells.{held, cell-at}
 use Rattle.memory.proofs.Lookup.{behind}
 use Rattle.memory.proofs.Valid.{Good, valid, listed, unlisted}

@@ -9,7 +9,7 @@ use lib.Seq.{getD-take, getD-drop, take-set-le, take-set-lt, drop-set-add, drop-
 use lib.Dec.{leb}
 use borrow.Author.Tests.{leb-true, leb-false, le-leb, lt-leb}
 use borrow.Rule.Slice.PartMut.{midOf, putMid, put-same}
-use Rattle.memory.specs.Pages.{pageBytes}
+use Rattle.pages.specs.Pages.{pageBytes}
 use Rattle.memory.specs.OnePage.{numberAt, putAt}
 use Rattle.memory.proofs.Parts.{pageStart, pageLength, whole}
 

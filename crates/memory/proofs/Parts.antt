@@ -5,10 +5,10 @@ use mathlib.Core.List.{List}
 use native.Mathlib.Omega.{arith}
 use lib.ListN.{length, set, length-set}
 use borrow.Rule.Slice.PartMut.{midOf, putMid, mid-len, set-mid-at}
-use Rattle.memory.specs.Pages.{pageBytes}
+use Rattle.pages.specs.Pages.{pageBytes}
 use Rattle.memory.specs.Access.{putByte}
-use Rattle.memory.specs.declared.pages.Spot.{Spot}
-use Rattle.memory.specs.declared.pages.Spot.the-variants.{Unlisted, At}
+use Rattle.pages.specs.declared.pages.Spot.{Spot}
+use Rattle.pages.specs.declared.pages.Spot.the-variants.{Unlisted, At}
 
 -- the start of the page that a place lies on
 abbrev pub pageStart : ℕ → ℕ

@@ -7,13 +7,13 @@ use native.Mathlib.Decide.{ℕ-discrete}
 use native.Mathlib.Omega.{arith}
 use lib.ListN.{length, getD}
 use lib.Dec.{eqb}
-use Rattle.memory.specs.Address.{plus, canonical}
-use Rattle.memory.specs.Pages.{Lookup}
+use Rattle.pages.specs.Address.{plus, canonical}
+use Rattle.pages.specs.Pages.{Lookup}
 use Rattle.memory.specs.Access.{kindNumber, byteCount, andThen, scan, start, onKind, listedByte, canonicalBytes, listedBytes, probe, byteIn, number, value, loadedIf, load, putByte, write, written, storedIf, store}
 use Rattle.memory.specs.Extends.{cellIn, present, cell, Extends, Places}
-use Rattle.memory.specs.declared.address.Width.{Width}
-use Rattle.memory.specs.declared.pages.Spot.{Spot}
-use Rattle.memory.specs.declared.pages.Spot.the-variants.{Unlisted, At}
+use Rattle.pages.specs.declared.address.Width.{Width}
+use Rattle.pages.specs.declared.pages.Spot.{Spot}
+use Rattle.pages.specs.declared.pages.Spot.the-variants.{Unlisted, At}
 use Rattle.memory.specs.declared.access.Access.{Access}
 use Rattle.memory.specs.declared.access.Failure.the-variants.{NotCanonical, WrongKind}
 use Rattle.memory.specs.declared.access.Reach.{Reach}

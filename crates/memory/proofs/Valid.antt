@@ -7,11 +7,11 @@ use native.Mathlib.Omega.{arith}
 use lib.ListN.{length, getD}
 use lib.Dec.{eqb, ltb}
 use borrow.Author.Tests.{lt-ltb, eqb-true, not-false}
-use Rattle.memory.specs.Pages.{pageBytes, pageLimit, pageOf, kindOf, onPage, anyEntry, badKind, badAddress, wrongLength, repeated, listing, inPage, spotFrom, spot}
-use Rattle.memory.specs.declared.pages.Listing.{Listing}
-use Rattle.memory.specs.declared.pages.Listing.the-variants.{Valid, BadLength, BadKind, BadAddress, Repeated}
-use Rattle.memory.specs.declared.pages.Spot.the-variants.{Unlisted, At}
-use Rattle.memory.proofs.Steps.{on-page}
+use Rattle.pages.specs.Pages.{pageBytes, pageLimit, pageOf, kindOf, onPage, anyEntry, badKind, badAddress, wrongLength, repeated, listing, inPage, spotFrom, spot}
+use Rattle.pages.specs.declared.pages.Listing.{Listing}
+use Rattle.pages.specs.declared.pages.Listing.the-variants.{Valid, BadLength, BadKind, BadAddress, Repeated}
+use Rattle.pages.specs.declared.pages.Spot.the-variants.{Unlisted, At}
+use Rattle.pages.proofs.Steps.{on-page}
 
 -- the first of two tests, where neither passes
 neither : (a b : Bool) → (a || b) ≡ false → (a ≡ false) × (b ≡ false)

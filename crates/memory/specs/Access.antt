@@ -4,11 +4,11 @@ use mathlib.Core.Bool.{Bool, true, false, cond}
 use mathlib.Core.List.{List}
 use lib.ListN.{getD, set}
 use lib.Dec.{eqb}
-use Rattle.memory.specs.Address.{wrapped, plus, canonical}
-use Rattle.memory.specs.Pages.{Lookup}
-use Rattle.memory.specs.declared.address.Width.{Width}
-use Rattle.memory.specs.declared.pages.Spot.{Spot}
-use Rattle.memory.specs.declared.pages.Spot.the-variants.{Unlisted, At}
+use Rattle.pages.specs.Address.{wrapped, plus, canonical}
+use Rattle.pages.specs.Pages.{Lookup}
+use Rattle.pages.specs.declared.address.Width.{Width}
+use Rattle.pages.specs.declared.pages.Spot.{Spot}
+use Rattle.pages.specs.declared.pages.Spot.the-variants.{Unlisted, At}
 use Rattle.memory.specs.declared.access.Kind.{Kind}
 use Rattle.memory.specs.declared.access.Kind.the-variants.{UserShadow, SupervisorShadow, Ordinary}
 use Rattle.memory.specs.declared.access.Size.{Size}

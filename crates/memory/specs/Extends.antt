@@ -4,9 +4,9 @@ use mathlib.Core.Path.{_≡_}
 use mathlib.Core.Bool.{false}
 use mathlib.Core.List.{List}
 use lib.ListN.{length, getD, take, drop}
-use Rattle.memory.specs.Pages.{Lookup, pageBytes, pageOf, onPage, anyEntry}
-use Rattle.memory.specs.declared.pages.Spot.{Spot}
-use Rattle.memory.specs.declared.pages.Spot.the-variants.{Unlisted, At}
+use Rattle.pages.specs.Pages.{Lookup, pageBytes, pageOf, onPage, anyEntry}
+use Rattle.pages.specs.declared.pages.Spot.{Spot}
+use Rattle.pages.specs.declared.pages.Spot.the-variants.{Unlisted, At}
 
 -- what an address holds: nothing, or a byte on a page of a kind
 pub data Cell : Type 0 where

@@ -8,8 +8,6 @@
 -- `set xs i v` the list with v there, `take n`, `drop n` the first n elements and the rest. `≡` states that two things are equal.
 -- `zero` and `suc n` are the two cases of a count: none, or one more than n. Types that come from `declared` (Access, Reach, Spot, ..)
 -- are declared in src/.
-pub mod Address
-pub mod Pages
 pub mod Access
 pub mod Extends
 pub mod Search

@@ -6,11 +6,11 @@ use mathlib.Core.Bool.{Bool, true, cond}
 use mathlib.Core.List.{List}
 use lib.ListN.{getD, set}
 use lib.Dec.{leb}
-use Rattle.memory.specs.Address.{canonical}
-use Rattle.memory.specs.Pages.{Lookup, pageBytes}
+use Rattle.pages.specs.Address.{canonical}
+use Rattle.pages.specs.Pages.{Lookup, pageBytes}
 use Rattle.memory.specs.Access.{kindNumber, byteCount, listedByte, start, probe}
-use Rattle.memory.specs.declared.pages.Spot.{Spot}
-use Rattle.memory.specs.declared.pages.Spot.the-variants.{Unlisted, At}
+use Rattle.pages.specs.declared.pages.Spot.{Spot}
+use Rattle.pages.specs.declared.pages.Spot.the-variants.{Unlisted, At}
 use Rattle.memory.specs.declared.access.Access.{Access}
 use Rattle.memory.specs.declared.access.Failure.the-variants.{NotCanonical}
 use Rattle.memory.specs.declared.access.Reach.{Reach}

@@ -1,15 +1,15 @@
 // An access, and whether it can be done.
 ghost use mathlib.Core.Path.{_≡_};
 ghost use mathlib.Core.Bool.{not};
-ghost use Rattle.memory.specs.Address.{wrapped};
-ghost use Rattle.memory.specs.Pages.{spot};
+ghost use Rattle.pages.specs.Address.{wrapped};
+ghost use Rattle.pages.specs.Pages.{spot};
 ghost use Rattle.memory.specs.Access.{kindNumber, byteCount, isReady, scan, canonicalBytes, probe as probeOf};
 ghost use Rattle.memory.specs.Search.{byteTest};
-use crate::address::Width;
-use crate::address::canonical;
 use crate::one_page::Located;
-use crate::pages::Spot;
-use crate::pages::find;
+use pages::Spot;
+use pages::Width;
+use pages::canonical;
+use pages::find;
 
 // The three kinds of page.
 pub enum Kind {

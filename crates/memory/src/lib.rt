@@ -3,10 +3,8 @@
 // The crates above use these contracts and nothing else of it. Any entries, any bytes and any access may be handed in; each
 // contract gives outright what comes back and what every lent byte holds then.
 mod access;
-mod address;
 mod load;
 mod one_page;
-mod pages;
 mod store;
 
 pub use access::Access;
@@ -14,11 +12,11 @@ pub use access::Failure;
 pub use access::Kind;
 pub use access::Reach;
 pub use access::Size;
-pub use address::Width;
-pub use address::canonical;
 pub use load::Loaded;
 pub use pages::Listing;
 pub use pages::PAGE_BYTES;
 pub use pages::PAGE_LIMIT;
 pub use pages::Spot;
+pub use pages::Width;
+pub use pages::canonical;
 pub use pages::find;

@@ -2,16 +2,16 @@
 ghost use mathlib.Core.Path.{_≡_};
 ghost use Prim.Native.Nat.{_≤_};
 ghost use lib.ListN.{length};
-ghost use Rattle.memory.specs.Address.{wrapped};
-ghost use Rattle.memory.specs.Pages.{spot};
+ghost use Rattle.pages.specs.Address.{wrapped};
+ghost use Rattle.pages.specs.Pages.{spot};
 ghost use Rattle.memory.specs.Access.{byteIn, number as numberOf, load as loadOf};
 use crate::access::Access;
 use crate::access::Failure;
-use crate::address::Width;
 use crate::one_page::Located;
 use crate::one_page::load_within;
-use crate::pages::Spot;
-use crate::pages::find;
+use pages::Spot;
+use pages::Width;
+use pages::find;
 
 // What a load gives.
 pub enum Loaded {

@@ -3,17 +3,17 @@
 ghost use mathlib.Core.Path.{_≡_};
 ghost use Prim.Native.Nat.{_+_, _^_, _≤_, _<_};
 ghost use lib.ListN.{length, getD};
-ghost use Rattle.memory.specs.Pages.{spot};
+ghost use Rattle.pages.specs.Pages.{spot};
 ghost use Rattle.memory.specs.Access.{byteCount, onKind};
 ghost use Rattle.memory.specs.OnePage.{onePage, allowed, locatedIf, within, located, firstLocated, OnLentPage, numberAt, putAt};
 use crate::access::Access;
 use crate::access::Failure;
 use crate::access::Reach;
 use crate::access::Size;
-use crate::address::canonical;
-use crate::pages::PAGE_BYTES;
-use crate::pages::Spot;
-use crate::pages::find;
+use pages::PAGE_BYTES;
+use pages::Spot;
+use pages::canonical;
+use pages::find;
 
 // What trying an access finds, and where it lies.
 pub(crate) enum Located {

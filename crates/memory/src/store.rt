@@ -1,17 +1,17 @@
 // Stores: 4 or 8 bytes of a number, low byte first.
 ghost use mathlib.Core.Path.{_≡_};
 ghost use lib.ListN.{length, set};
-ghost use Rattle.memory.specs.Address.{wrapped};
-ghost use Rattle.memory.specs.Pages.{spot};
+ghost use Rattle.pages.specs.Address.{wrapped};
+ghost use Rattle.pages.specs.Pages.{spot};
 ghost use Rattle.memory.specs.Access.{putByte, write as writeOf, probe as probeOf, store as storeOf};
 use crate::access::Access;
 use crate::access::Reach;
-use crate::address::Width;
 use crate::one_page::Located;
 use crate::one_page::store_within;
-use crate::pages::PAGE_BYTES;
-use crate::pages::Spot;
-use crate::pages::find;
+use pages::PAGE_BYTES;
+use pages::Spot;
+use pages::Width;
+use pages::find;
 
 // Sets one byte of a page; nothing where the offset is past its end.
 fn put_in_page(page: &mut [u8], offset: usize, byte: u8)

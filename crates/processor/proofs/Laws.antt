@@ -15,7 +15,7 @@ use mathlib.Core.Bool.{Bool, true, false, cond}
 use mathlib.Core.List.{List}
 use native.Mathlib.Omega.{arith}
 use Rattle.memory.specs.Access.{byteCount, probe, value, written, load as loadAt}
-use Rattle.memory.specs.Pages.{Lookup}
+use Rattle.pages.specs.Pages.{Lookup}
 use Rattle.memory.specs.declared.access.Access.{Access}
 use Rattle.memory.specs.declared.access.Failure.{Failure}
 use Rattle.memory.specs.declared.access.Reach.{Reach}
@@ -24,13 +24,11 @@ use Rattle.memory.specs.declared.access.Size.{Size}
 use Rattle.memory.specs.declared.access.Size.the-variants.{Four, Eight}
 use Rattle.memory.specs.declared.load.Loaded.the-variants.{Value, Blocked as Unloaded}
 use Rattle.memory.proofs.Laws.{loaded-value, loaded-failure}
-use Rattle.processor.specs.Accesses.{blame}
-use Rattle.processor.specs.Outcomes.{storedOf}
-use Rattle.processor.specs.declared.stores.Stored.the-variants.{AllStored, NoneStored}
+use Rattle.answers.specs.Blame.{blame}
 use Rattle.processor.specs.Prog.{Prog, done, stop, fetch, put, _>>=_, _>>_, load, touch, store, storeBoth, unless, onlyIf, Result, ended, broken, onReach, left, interp, operate}
 use Rattle.processor.specs.State.{isLong, longBit}
-use Rattle.processor.specs.declared.answer.Answer.the-variants.{Completed, Faulted}
-use Rattle.processor.specs.declared.answer.Fault.{Fault}
+use Rattle.answers.specs.declared.answer.Answer.the-variants.{Completed, Faulted}
+use Rattle.answers.specs.declared.answer.Fault.{Fault}
 use Rattle.processor.specs.declared.state.State.{State}
 
 module _ (look : Lookup) (bytes : List ℕ) {A : Type 0} where
@@ -124,15 +122,6 @@ module _ (look : Lookup) (bytes : List ℕ) (first : Access) (u : ℕ) (second :
   pub both-stored : probe look first ≡ Ready → probe look second ≡ Ready → interp look (storeBoth first u second v) bytes ≡ ended tt (written look second v (written look first u bytes))
   unfolding interp
   both-stored r e = stored look bytes first u (store second v) r ∙ rw e
-
--- what the outcome of two stores says of their program
-pub none-stored : (r : Result (Unit {0})) (fault : Fault) → NoneStored fault ≡ storedOf r → r ≡ broken fault
-none-stored (ended x after) fault e = let z : _≡_ {A = ℕ} 0 1 = cc in absurd (omega arith)
-none-stored (broken other) fault e = ap broken cc
-
-pub all-stored : (r : Result (Unit {0})) (bytes : List ℕ) → AllStored ≡ storedOf r → r ≡ ended tt (left r bytes)
-all-stored (ended x after) bytes e = refl
-all-stored (broken fault) bytes e = let z : _≡_ {A = ℕ} 0 1 = cc in absurd (omega arith)
 
 -- ---- small numbers
 

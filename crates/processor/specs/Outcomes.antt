@@ -1,12 +1,10 @@
 -- What an operation hands back. Assumes nothing.
 use Prim.Native.Nat.{ℕ}
 use mathlib.Core.List.{List}
-use Rattle.processor.specs.Prog.{Result, ended, broken, Step}
-use Rattle.processor.specs.declared.stores.Stored.{Stored}
-use Rattle.processor.specs.declared.stores.Stored.the-variants.{AllStored, NoneStored}
+use Rattle.processor.specs.Prog.{Step}
 use Rattle.processor.specs.State.{withIp}
-use Rattle.processor.specs.declared.answer.Answer.the-variants.{Completed, Faulted}
-use Rattle.processor.specs.declared.answer.Fault.{Fault}
+use Rattle.answers.specs.declared.answer.Answer.the-variants.{Completed, Faulted}
+use Rattle.answers.specs.declared.answer.Fault.{Fault}
 use Rattle.processor.specs.declared.outcome.Outcome.{Outcome}
 use Rattle.processor.specs.declared.state.State.{State}
 
@@ -17,11 +15,6 @@ completed s ip = record { answer = Completed; state = withIp s ip }
 -- a fault leaves the state alone
 abbrev pub faulted : State → Fault → Outcome
 faulted s fault = record { answer = Faulted fault; state = s }
-
--- how a program of stores ends
-abbrev pub storedOf : {A : Type 0} → Result A → Stored
-storedOf (ended x bytes) = AllStored
-storedOf (broken fault) = NoneStored fault
 
 -- an outcome with the bytes that are left, as one step
 abbrev pub stepOf : Outcome → List ℕ → Step

@@ -1,4 +1,3 @@
 -- Laws of one instruction and of a run.
 
-pub mod ExecLaws
 mod RunLaws

@@ -3,13 +3,13 @@ use Prim.Native.Nat.{ℕ, suc, _+_, _-_, _<_}
 use mathlib.Core.List.{List}
 use mathlib.Core.Path.{_≡_, _∙_}
 use native.Mathlib.Omega.{arith}
-use Rattle.memory.specs.Pages.{Lookup}
+use Rattle.pages.specs.Pages.{Lookup}
 use Rattle.processor.specs.Prog.{Step}
-use Rattle.processor.specs.declared.answer.Answer.the-variants.{Completed}
+use Rattle.answers.specs.declared.answer.Answer.the-variants.{Completed}
 use Rattle.processor.specs.declared.state.State.{State}
-use Rattle.replay.specs.Exec.{InstructionSet, perform}
+use Rattle.perform.specs.Exec.{InstructionSet, perform}
 use Rattle.replay.specs.Run.{Run, onward, endsAt, runFrom}
-use Rattle.replay.specs.declared.instruction.Instruction.{Instruction}
+use Rattle.instructions.specs.declared.instruction.Instruction.{Instruction}
 
 module _ (set : InstructionSet) (look : Lookup) (listed : ℕ → Instruction) (k n : ℕ) (s : State) (bytes : List ℕ) where
   -- one more instruction is left

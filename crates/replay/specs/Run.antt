@@ -4,18 +4,18 @@ use mathlib.Core.Bool.{Bool, not, cond, _||_}
 use mathlib.Core.List.{List}
 use lib.ListN.{length}
 use lib.Dec.{eqb, ltb}
-use Rattle.memory.specs.Pages.{Lookup, listing, spot}
-use Rattle.memory.specs.declared.pages.Listing.{Listing}
-use Rattle.memory.specs.declared.pages.Listing.the-variants.{Valid, BadLength, BadKind, BadAddress, Repeated}
+use Rattle.pages.specs.Pages.{Lookup, listing, spot}
+use Rattle.pages.specs.declared.pages.Listing.{Listing}
+use Rattle.pages.specs.declared.pages.Listing.the-variants.{Valid, BadLength, BadKind, BadAddress, Repeated}
 use Rattle.processor.specs.State.{inRange}
 use Rattle.processor.specs.Prog.{Step}
-use Rattle.processor.specs.declared.answer.Answer.{Answer}
-use Rattle.processor.specs.declared.answer.Answer.the-variants.{Completed, Refused, Faulted}
-use Rattle.processor.specs.declared.answer.Refusal.the-variants.{Length, Kind, Address, Repeat, State as BadState, Words}
+use Rattle.answers.specs.declared.answer.Answer.{Answer}
+use Rattle.answers.specs.declared.answer.Answer.the-variants.{Completed, Refused, Faulted}
+use Rattle.answers.specs.declared.answer.Refusal.the-variants.{Length, Kind, Address, Repeat, State as BadState, Words}
 use Rattle.processor.specs.declared.state.State.{State}
-use Rattle.replay.specs.Instruction.{instructionAt}
-use Rattle.replay.specs.Exec.{InstructionSet, refused, perform}
-use Rattle.replay.specs.declared.instruction.Instruction.{Instruction}
+use Rattle.instructions.specs.Instruction.{instructionAt}
+use Rattle.perform.specs.Exec.{InstructionSet, refused, perform}
+use Rattle.instructions.specs.declared.instruction.Instruction.{Instruction}
 use Rattle.replay.specs.declared.steps.Tested.{Tested}
 use Rattle.replay.specs.declared.steps.Tested.the-variants.{Passed, Failed}
 use Rattle.replay.specs.declared.runs.Replay.{Replay}

@@ -2,14 +2,14 @@
 ghost use mathlib.Core.Path.{_≡_};
 ghost use Prim.Native.Nat.{_/_, _%_};
 ghost use lib.ListN.{length as count};
-ghost use Rattle.memory.specs.Pages.{spot};
-ghost use Rattle.replay.specs.Instruction.{instructionAt};
-ghost use Rattle.replay.specs.Codes.{codes};
+ghost use Rattle.pages.specs.Pages.{spot};
+ghost use Rattle.instructions.specs.Instruction.{instructionAt};
+ghost use Rattle.perform.specs.Codes.{codes};
 ghost use Rattle.replay.specs.Run.{run as runWith, runFrom, runOf};
-use crate::instruction::nth;
-use crate::perform::perform;
 use crate::steps::Tested;
 use crate::steps::check;
+use instructions::nth;
+use perform::perform;
 use processor::Answer;
 use processor::State;
 

@@ -2,11 +2,11 @@
 ghost use mathlib.Core.Path.{_≡_};
 ghost use lib.ListN.{length as count};
 ghost use Rattle.processor.specs.Outcomes.{stepOf};
-ghost use Rattle.replay.specs.Codes.{codes};
+ghost use Rattle.perform.specs.Codes.{codes};
 ghost use Rattle.replay.specs.Run.{badWords, check as checkOf, step as stepWith};
-use crate::instruction::Instruction;
-use crate::perform::perform;
+use instructions::Instruction;
 use memory::Listing;
+use perform::perform;
 use processor::Answer;
 use processor::Outcome;
 use processor::Refusal;

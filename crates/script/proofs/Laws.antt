@@ -9,12 +9,12 @@ use native.Mathlib.Omega.{arith}
 use lib.ListN.{length, getD, take, drop, set, length-drop, drop-of-length-le}
 use lib.Seq.{drop-cons, take-at, length-take-le, take-suc, take-suc-set, getD-drop, getD-set-same, getD-set-other}
 use lib.Dec.{leb, lit<}
-use Rattle.memory.specs.Address.{plus}
-use Rattle.memory.specs.Pages.{Lookup}
+use Rattle.pages.specs.Address.{plus}
+use Rattle.pages.specs.Pages.{Lookup}
 use Rattle.memory.specs.Access.{andThen, scan, putByte, write}
 use Rattle.memory.specs.declared.access.Reach.{Reach}
 use Rattle.memory.specs.declared.access.Reach.the-variants.{Ready}
-use Rattle.memory.specs.declared.address.Width.the-variants.{Bits64}
+use Rattle.pages.specs.declared.address.Width.the-variants.{Bits64}
 use Rattle.script.specs.Line.{spelling, digitOf, valueFrom, FirstFits, Numbers}
 use Rattle.script.specs.Lent.{lentByte, Fresh, entriesOf, pageListOf, Bounded}
 use Rattle.script.specs.declared.line.Command.{Command}

@@ -5,18 +5,18 @@ use mathlib.Core.Bool.{Bool}
 use mathlib.Core.List.{List}
 use lib.ListN.{getD}
 use lib.Dec.{eqb}
-use Rattle.memory.specs.Address.{modulus}
-use Rattle.memory.specs.Pages.{Lookup}
+use Rattle.pages.specs.Address.{modulus}
+use Rattle.pages.specs.Pages.{Lookup}
 use Rattle.memory.specs.Access.{kindNumber, byteCount}
-use Rattle.memory.specs.declared.address.Width.{Width}
+use Rattle.pages.specs.declared.address.Width.{Width}
 use Rattle.memory.specs.declared.access.Kind.{Kind}
 use Rattle.memory.specs.declared.access.Size.{Size}
 use Rattle.memory.specs.declared.access.Access.{Access}
 use Rattle.memory.specs.declared.access.Failure.the-variants.{NotListed}
 use Rattle.memory.specs.declared.access.Reach.{Reach}
 use Rattle.memory.specs.declared.access.Reach.the-variants.{Ready, Blocked}
-use Rattle.memory.specs.declared.pages.Spot.{Spot}
-use Rattle.memory.specs.declared.pages.Spot.the-variants.{Unlisted, At}
+use Rattle.pages.specs.declared.pages.Spot.{Spot}
+use Rattle.pages.specs.declared.pages.Spot.the-variants.{Unlisted, At}
 
 -- Each holds for the numbers that a line can have there.
 abbrev pub IsKind : ℕ → Kind → Type 0

@@ -3,7 +3,7 @@ use Prim.Native.Nat.{ℕ, _+_, _-_, _*_, _/_, _%_, _≤_, _<_}
 use mathlib.Core.Path.{_≡_}
 use mathlib.Core.List.{List}
 use lib.ListN.{length, getD, take, drop}
-use Rattle.memory.specs.Pages.{listing, refusalNumber}
+use Rattle.pages.specs.Pages.{listing, refusalNumber}
 use Rattle.script.specs.declared.line.Fill.{Fill}
 use Rattle.script.specs.declared.line.Fill.the-variants.{Placed, Blank}
 use Rattle.script.specs.declared.PageList.{PageList}

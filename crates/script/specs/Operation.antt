@@ -2,7 +2,7 @@
 use Prim.Native.Nat.{ℕ}
 use mathlib.Core.List.{List}
 use lib.ListN.{getD}
-use Rattle.replay.specs.declared.instruction.Instruction.{Instruction}
+use Rattle.instructions.specs.declared.instruction.Instruction.{Instruction}
 
 abbrev pub instructionOf : List ℕ → Instruction
 instructionOf numbers = record { code = getD numbers 0 0; length = getD numbers 1 0; a = getD numbers 2 0; b = getD numbers 3 0 }

@@ -7,11 +7,11 @@ use native.Mathlib.Omega.{arith}
 use lib.ListN.{length}
 use lib.Dec.{eqb, ltb}
 use borrow.Author.Tests.{lt-ltb, le-ltb, eq-eqb, eqb-true, ltb-false, not-false}
-use Rattle.memory.specs.Pages.{pageBytes, pageLimit, wrongLength, badKind, badAddress, anyEntry, repeated, listing}
-use Rattle.memory.specs.declared.pages.Listing.{Listing}
-use Rattle.memory.specs.declared.pages.Listing.the-variants.{Valid, BadLength, BadKind, BadAddress, Repeated}
-use Rattle.processor.specs.declared.answer.Refusal.{Refusal}
-use Rattle.processor.specs.declared.answer.Refusal.the-variants.{Length}
+use Rattle.pages.specs.Pages.{pageBytes, pageLimit, wrongLength, badKind, badAddress, anyEntry, repeated, listing}
+use Rattle.pages.specs.declared.pages.Listing.{Listing}
+use Rattle.pages.specs.declared.pages.Listing.the-variants.{Valid, BadLength, BadKind, BadAddress, Repeated}
+use Rattle.answers.specs.declared.answer.Refusal.{Refusal}
+use Rattle.answers.specs.declared.answer.Refusal.the-variants.{Length}
 use Rattle.replay.specs.Run.{instructionLimit, badWords, afterPages, check}
 use Rattle.replay.specs.declared.steps.Tested.{Tested}
 use Rattle.replay.specs.declared.steps.Tested.the-variants.{Passed, Failed}

@@ -6,7 +6,7 @@ use mathlib.Core.Bool.{cond}
 use mathlib.Core.List.{List, [], _∷_, _++_}
 use lib.ListN.{length, getD, take, drop}
 use lib.Dec.{eqb, leb}
-use Rattle.memory.specs.Pages.{pageBytes, pageOf}
+use Rattle.pages.specs.Pages.{pageBytes, pageOf}
 use Rattle.sheet.specs.Digits.{Below}
 use Rattle.sheet.specs.Lines.{fieldCount, line, joined}
 use Rattle.sheet.specs.declared.line.Line.the-variants.{Sheet, State as StateLine, Page as PageLine, Word, Do}

@@ -5,9 +5,9 @@ use mathlib.Core.Path.{_≡_, refl, sym, ap, ap₂, _∙_, subst}
 use native.Mathlib.Omega.{arith}
 use lib.ListN.{length, getD, take, drop}
 use lib.Seq.{drop-drop}
-use Rattle.memory.specs.Pages.{pageBytes, listing}
+use Rattle.pages.specs.Pages.{pageBytes, listing}
 use Rattle.memory.specs.Extends.{pageAt, HoldsPages}
-use Rattle.memory.specs.declared.pages.Listing.the-variants.{Valid}
+use Rattle.pages.specs.declared.pages.Listing.the-variants.{Valid}
 use Rattle.sheet.specs.Sheets.{Page, Ascending, pagesOf, ascended, entriesOf}
 use Rattle.sheet_claims.proofs.Ordered.{Every, ascended-ascending}
 use Rattle.sheet.proofs.TestedLaws.{valid-list}

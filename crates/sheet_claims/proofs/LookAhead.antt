@@ -6,7 +6,7 @@ use mathlib.Core.Path.{_≡_, refl, subst₂}
 use native.Mathlib.Omega.{arith}
 use lib.ListN.{length, take, drop, length-append, length-drop}
 use lib.Dec.{leb}
-use Rattle.memory.specs.Pages.{pageOf}
+use Rattle.pages.specs.Pages.{pageOf}
 use Rattle.sheet.specs.Lines.{isLine}
 use Rattle.sheet.specs.Sheets.{frameOf, slots}
 use Rattle.sheet.specs.Reading.{value, next, isWord, pageCount, numbers, pastSlot, pastSlots, pastPages, doCount, stages}

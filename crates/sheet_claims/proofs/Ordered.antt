@@ -9,7 +9,7 @@ use native.Mathlib.Omega.{arith}
 use lib.ListN.{length}
 use lib.Dec.{leb}
 use borrow.Author.Tests.{le-leb, leb-true, leb-false, eqb-false, ne-eqb}
-use Rattle.memory.specs.Pages.{pageOf, onPage, anyEntry, repeated}
+use Rattle.pages.specs.Pages.{pageOf, onPage, anyEntry, repeated}
 use Rattle.sheet.specs.Sheets.{Page, frameOf, Ascending, insert, ascended, entriesOf}
 use Rattle.sheet.proofs.TestedLaws.{neither}
 

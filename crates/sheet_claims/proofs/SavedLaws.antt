@@ -7,8 +7,8 @@ use mathlib.Core.Path.{_≡_, refl, sym, ap, _∙_}
 use native.Mathlib.Omega.{arith}
 use lib.ListN.{length, drop, length-append, length-drop}
 use lib.Seq.{length-take-le, take-at, drop-at}
-use Rattle.memory.specs.Pages.{pageBytes, badKind, badAddress, anyEntry, listing}
-use Rattle.memory.specs.declared.pages.Listing.the-variants.{Valid}
+use Rattle.pages.specs.Pages.{pageBytes, badKind, badAddress, anyEntry, listing}
+use Rattle.pages.specs.declared.pages.Listing.the-variants.{Valid}
 use Rattle.sheet.specs.Digits.{Below}
 use Rattle.sheet.specs.Sheets.{Page, Saved, WholePage, WholePages, Sheeted, pagesOf, ascended, savedOf, entriesOf, bytesOf}
 use Rattle.sheet_claims.proofs.Bytes.{below-take, below-drop}

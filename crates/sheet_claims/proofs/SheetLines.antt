@@ -7,7 +7,7 @@ use native.Mathlib.Omega.{arith}
 use lib.ListN.{length, take, drop, length-drop}
 use lib.Seq.{length-take-le}
 use lib.Dec.{eqb}
-use Rattle.memory.specs.Pages.{pageOf}
+use Rattle.pages.specs.Pages.{pageOf}
 use Rattle.sheet.specs.Digits.{Below}
 use Rattle.sheet.specs.Lines.{fieldCount, line, lines}
 use Rattle.sheet.specs.Sheets.{Page, Saved, Sheeted, WholePages, little, wordLine, wordLines, slots, pagesWords, pageLines, doLines, version, sheetLines, text}

@@ -8,7 +8,7 @@ use lib.ListN.{length, length-append}
 use lib.Seq.{drop-at}
 use lib.Dec.{eqb}
 use borrow.Author.Tests.{eqb-true, not-true}
-use Rattle.memory.specs.Pages.{pageOf}
+use Rattle.pages.specs.Pages.{pageOf}
 use Rattle.sheet.specs.Digits.{Below}
 use Rattle.sheet.specs.Lines.{isLine, values}
 use Rattle.sheet.specs.Sheets.{WholePages, wordLine, wordLines, slots, pagesWords}

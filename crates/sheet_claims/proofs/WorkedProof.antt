@@ -1,6 +1,6 @@
 -- The worked sheets, computed. Assumes nothing.
 use mathlib.Core.Path.{refl}
-use Rattle.memory.specs.Pages.{pageOf}
+use Rattle.pages.specs.Pages.{pageOf}
 use Rattle.sheet.specs.Digits.{digit, hex, number}
 use Rattle.sheet.specs.Lines.{fields, line, joined}
 use Rattle.sheet.specs.Sheets.{little, wordLines, pagesWords, pageLines, doLines, sheetLines, text}

@@ -3,9 +3,9 @@ use mathlib.Core.Path.{_≡_}
 use mathlib.Core.List.{List}
 use Prim.Native.Nat.{ℕ}
 use lib.ListN.{length}
-use Rattle.memory.specs.Pages.{listing}
+use Rattle.pages.specs.Pages.{listing}
 use Rattle.memory.specs.Extends.{HoldsPages}
-use Rattle.memory.specs.declared.pages.Listing.the-variants.{Valid}
+use Rattle.pages.specs.declared.pages.Listing.the-variants.{Valid}
 use Rattle.sheet.specs.Sheets.{savedOf, text}
 use Rattle.sheet_write.specs.Writes.{writes}
 

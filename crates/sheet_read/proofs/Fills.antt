@@ -8,7 +8,7 @@ use native.Mathlib.Numerals.{add-one}
 use native.Mathlib.Omega.{arith}
 use lib.ListN.{length, getD, take, drop, set, drop-of-length-le}
 use lib.Seq.{drop-cons, drop-drop}
-use Rattle.memory.specs.Pages.{pageOf}
+use Rattle.pages.specs.Pages.{pageOf}
 use Rattle.sheet.specs.Digits.{digits, valueOf}
 use Rattle.sheet.specs.Lines.{lines, begins, form, name, fieldCount, width, values}
 use Rattle.sheet.specs.Sheets.{slots, bytesOf}

@@ -5,7 +5,7 @@ use mathlib.Core.List.{List, [], _∷_, _++_}
 use native.Mathlib.Omega.{arith}
 use lib.ListN.{length, take, drop, length-append}
 use lib.Seq.{drop-drop}
-use Rattle.memory.specs.Pages.{pageBytes, pageOf}
+use Rattle.pages.specs.Pages.{pageBytes, pageOf}
 use Rattle.sheet.specs.Digits.{digits, valueOf}
 use Rattle.sheet.specs.Lines.{lines, values, valuesIn}
 use Rattle.sheet.specs.Sheets.{slots, entriesOf, bytesOf}

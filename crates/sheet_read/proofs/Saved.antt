@@ -8,11 +8,11 @@ use lib.Dec.{leb}
 use borrow.Author.Tests.{leb-true}
 use lib.ListN.{length, take, drop, drop-of-length-le}
 use lib.Seq.{take-at}
-use Rattle.memory.specs.Pages.{pageBytes, pageLimit}
+use Rattle.pages.specs.Pages.{pageBytes, pageLimit}
 use Rattle.processor.specs.State.{inRange}
-use Rattle.processor.specs.declared.answer.Refusal.{Refusal}
-use Rattle.processor.specs.declared.answer.Refusal.the-variants.{Length}
-use Rattle.replay.specs.Layout.{stateOf}
+use Rattle.answers.specs.declared.answer.Refusal.{Refusal}
+use Rattle.answers.specs.declared.answer.Refusal.the-variants.{Length}
+use Rattle.instructions.specs.Layout.{stateOf}
 use Rattle.replay.specs.Run.{check}
 use Rattle.replay.specs.declared.steps.Tested.the-variants.{Passed, Failed}
 use Rattle.sheet.specs.Lines.{lines}

@@ -11,7 +11,7 @@ use lib.ListN.{length, take, drop}
 use lib.Seq.{drop-drop}
 use lib.Dec.{eqb, leb}
 use borrow.Author.Tests.{not-true, eqb-true, eq-eqb, ne-eqb, le-leb, lt-leb}
-use Rattle.memory.specs.Pages.{pageBytes, pageOf}
+use Rattle.pages.specs.Pages.{pageBytes, pageOf}
 use Rattle.sheet.specs.Digits.{digits, valueOf}
 use Rattle.sheet.specs.Lines.{lines, begins, form, isLine}
 use Rattle.sheet.specs.Sheets.{frameOf, slots}

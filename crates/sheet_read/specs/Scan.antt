@@ -6,7 +6,7 @@ use mathlib.Core.Bool.{Bool, true, cond, _&&_}
 use mathlib.Core.List.{List, [], _∷_}
 use lib.ListN.{length, take, drop}
 use lib.Dec.{eqb, leb}
-use Rattle.memory.specs.Pages.{pageBytes, pageOf}
+use Rattle.pages.specs.Pages.{pageBytes, pageOf}
 use Rattle.sheet.specs.Lines.{lines, isLine}
 use Rattle.sheet.specs.Sheets.{Saved, slots}
 use Rattle.sheet.specs.Reading.{next, isHead, numbers, slotValue, pastSlot, pastSlots, pagesIn, sheet, noSheet, parsed}

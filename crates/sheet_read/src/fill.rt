@@ -3,7 +3,7 @@ ghost use mathlib.Core.Path.{_≡_};
 ghost use mathlib.Core.Bool.{true};
 ghost use Prim.Native.Nat.{_+_, _*_, _≤_};
 ghost use lib.ListN.{length, take, drop};
-ghost use Rattle.memory.specs.Pages.{pageBytes, pageOf};
+ghost use Rattle.pages.specs.Pages.{pageBytes, pageOf};
 ghost use Rattle.sheet.specs.Lines.{lines, begins, form, fieldCount, width, values};
 ghost use Rattle.sheet.specs.Sheets.{slots, bytesOf};
 ghost use Rattle.sheet.specs.Reading.{numbers, littleBytes, slotBytes, pagesIn};

@@ -2,7 +2,7 @@
 ghost use mathlib.Core.Path.{_≡_};
 ghost use Prim.Native.Nat.{_+_, _*_, _≤_};
 ghost use lib.ListN.{length, drop};
-ghost use Rattle.memory.specs.Pages.{pageOf};
+ghost use Rattle.pages.specs.Pages.{pageOf};
 ghost use Rattle.sheet.specs.Lines.{lines};
 ghost use Rattle.sheet.specs.Sheets.{slots};
 ghost use Rattle.sheet.specs.Reading.{pageCount, slotValue, doCount};

@@ -5,7 +5,7 @@ use mathlib.Core.List.{List, [], _∷_, _++_}
 use mathlib.Core.Logic.{⊎-elim}
 use native.Mathlib.Omega.{arith}
 use lib.ListN.{length, getD, take, drop}
-use Rattle.memory.specs.Pages.{pageBytes, pageOf}
+use Rattle.pages.specs.Pages.{pageBytes, pageOf}
 use Rattle.sheet.specs.Lines.{line, joined}
 use Rattle.sheet.specs.Sheets.{Page, frameOf, little, wordLine, wordLines, slots, doLines}
 use Rattle.sheet.specs.declared.line.Line.the-variants.{Page as PageLine, Do}

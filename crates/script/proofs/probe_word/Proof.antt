@@ -1,9 +1,9 @@
 -- `script::probe_word` meets its contract. The invariant: the whole scan is the scan from here on. The measure is the bytes that are left. Assumes nothing.
 use mathlib.Core.Path.{_≡_, refl, sym, _∙_}
 use borrow.Author.Needs.{needs}
-use Rattle.memory.specs.Pages.{spot}
+use Rattle.pages.specs.Pages.{spot}
 use Rattle.memory.specs.Access.{scan}
-use Rattle.memory.specs.declared.address.Width.the-variants.{Bits64}
+use Rattle.pages.specs.declared.address.Width.the-variants.{Bits64}
 use Rattle.script.specs.Access.{anyByte}
 use Rattle.script.proofs.Laws.{scan-turn, scan-end}
 use Rattle.script.proofs.probe_word.Statement.{statement}

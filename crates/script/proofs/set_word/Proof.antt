@@ -2,9 +2,9 @@
 use mathlib.Core.Path.{_≡_, refl, sym, _∙_}
 use lib.ListN.{length}
 use borrow.Author.Needs.{needs}
-use Rattle.memory.specs.Pages.{spot}
+use Rattle.pages.specs.Pages.{spot}
 use Rattle.memory.specs.Access.{write}
-use Rattle.memory.specs.declared.address.Width.the-variants.{Bits64}
+use Rattle.pages.specs.declared.address.Width.the-variants.{Bits64}
 use Rattle.script.proofs.Laws.{write-turn, write-end}
 use Rattle.script.proofs.set_word.Statement.{statement}
 use Rattle.script.proofs.set_word.Tie as tie

@@ -4,8 +4,8 @@ use mathlib.Core.Path.{_≡_, sym, _∙_, ap}
 use mathlib.Core.Bool.{not}
 use native.Mathlib.Omega.{arith}
 use borrow.Author.Needs.{needs}
-use Rattle.memory.specs.Address.{wrapped, plus}
-use Rattle.memory.specs.Pages.{spot}
+use Rattle.pages.specs.Address.{wrapped, plus}
+use Rattle.pages.specs.Pages.{spot}
 use Rattle.memory.specs.Access.{scan, andThen}
 use Rattle.memory.specs.Search.{byteTest}
 use Rattle.memory.proofs.Steps.{scan-turn, scan-end}

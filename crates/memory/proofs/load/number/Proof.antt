@@ -5,7 +5,7 @@ use native.Mathlib.Omega.{arith}
 use lib.ListN.{length}
 use borrow.Author.Needs.{needs}
 use Rattle.memory.specs.Access.{byteIn}
-use Rattle.memory.specs.Pages.{spot}
+use Rattle.pages.specs.Pages.{spot}
 use Rattle.memory.proofs.Numbers.{Built, room, built-none, built-all, built-more}
 use Rattle.memory.proofs.load.number.Statement.{statement}
 use Rattle.memory.proofs.load.number.Tie as tie

@@ -3,8 +3,8 @@ use mathlib.Core.Path.{_≡_, refl, sym, _∙_}
 use native.Mathlib.Omega.{arith}
 use lib.ListN.{length}
 use borrow.Author.Needs.{needs}
-use Rattle.memory.specs.Address.{wrapped}
-use Rattle.memory.specs.Pages.{spot}
+use Rattle.pages.specs.Address.{wrapped}
+use Rattle.pages.specs.Pages.{spot}
 use Rattle.memory.specs.Access.{write}
 use Rattle.memory.proofs.Steps.{write-turn, write-end}
 use Rattle.memory.proofs.Parts.{length-put}

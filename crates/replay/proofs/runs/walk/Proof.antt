@@ -7,9 +7,9 @@ use borrow.Author.Needs.{needs}
 use Rattle.replay.proofs.runs.walk.Tie as tie
 use Rattle.processor.specs.Outcomes.{stepOf}
 use Rattle.replay.specs.Run.{runFrom}
-use Rattle.replay.specs.Codes.{codes}
-use Rattle.replay.specs.Instruction.{instructionAt}
-use Rattle.memory.specs.Pages.{spot}
+use Rattle.perform.specs.Codes.{codes}
+use Rattle.instructions.specs.Instruction.{instructionAt}
+use Rattle.pages.specs.Pages.{spot}
 use Rattle.replay.proofs.RunLaws.{goes-on, ends, at-end}
 use Rattle.replay.proofs.runs.walk.Statement.{statement}
 

@@ -5,7 +5,7 @@ use mathlib.Core.Bool.{Bool}
 use mathlib.Core.List.{List}
 use lib.ListN.{length, take, drop}
 use borrow.Author.Needs.{needs}
-use Rattle.memory.specs.Pages.{pageBytes}
+use Rattle.pages.specs.Pages.{pageBytes}
 use Rattle.replay.specs.Run.{check}
 use Rattle.sheet_read.specs.Scan.{bodyAt, entriesIn}
 use Rattle.sheet_read.proofs.Saved.{laid-front, pages-long, too-many-pages, tested-is}

@@ -6,7 +6,7 @@ use mathlib.Core.List.{List}
 use native.Mathlib.Omega.{arith}
 use lib.ListN.{length, drop}
 use borrow.Author.Needs.{needs}
-use Rattle.memory.specs.Pages.{pageOf}
+use Rattle.pages.specs.Pages.{pageOf}
 use Rattle.sheet.specs.Lines.{lines}
 use Rattle.sheet.specs.Sheets.{slots}
 use Rattle.sheet.specs.Reading.{slotValue, slotBytes}

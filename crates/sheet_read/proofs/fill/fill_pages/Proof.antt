@@ -5,7 +5,7 @@ use mathlib.Core.List.{List}
 use native.Mathlib.Omega.{arith}
 use lib.ListN.{length, drop}
 use borrow.Author.Needs.{needs}
-use Rattle.memory.specs.Pages.{pageBytes}
+use Rattle.pages.specs.Pages.{pageBytes}
 use Rattle.sheet.specs.Lines.{lines}
 use Rattle.sheet.specs.Sheets.{bytesOf}
 use Rattle.sheet.specs.Reading.{pagesIn}

@@ -1,6 +1,6 @@
 -- `page_of` meets its contract, by its definition. Assumes nothing.
 use borrow.Author.Needs.{needs}
-use Rattle.memory.specs.Pages.{pageOf}
+use Rattle.pages.specs.Pages.{pageOf}
 use Rattle.sheet_read.proofs.scan.page_of.Statement.{statement}
 use Rattle.sheet_read.proofs.scan.page_of.Tie as tie
 

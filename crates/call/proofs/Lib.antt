@@ -1,0 +1,2 @@
+mod CallWays
+mod SignedNumbers

@@ -1,0 +1,129 @@
+// Near CALL: the target of a relative call, and the call itself.
+ghost use mathlib.Core.Path.{_≡_};
+ghost use lib.ListN.{length as count};
+ghost use Rattle.pages.specs.Pages.{spot};
+ghost use Rattle.processor.specs.Prog.{operate};
+ghost use Rattle.processor.specs.Outcomes.{stepOf};
+ghost use Rattle.call.specs.Call.{displacement as displacementOf, moved as movedOf, relative as relativeOf, inCode, pushed as pushedOf, runsPast, displaced as displacedOf, pushesFrame, call};
+use memory::Reach;
+use memory::Size;
+use processor::Outcome;
+use processor::State;
+use processor::Vector;
+use stores::Stored;
+
+// The displacement as a signed number: the low 32 bits of the operand in two's complement.
+fn displacement(a: u64) -> i64
+    ensures { λ r. ⌜ r ≡ displacementOf a ⌝ }
+{
+    let low = a % 0x1_0000_0000;
+    if low < 0x8000_0000 {
+        low as i64
+    } else {
+        low as i64 - 0x1_0000_0000
+    }
+}
+
+// A pointer moved by a signed number.
+fn moved(state: State, from: u64, by: i64) -> u64
+    ensures { λ r. ⌜ r ≡ movedOf state from by ⌝ }
+{
+    if by >= 0 {
+        state.plus(from, by as u64)
+    } else {
+        state.minus(from, (-1 - by) as u64 + 1)
+    }
+}
+
+// The target of a relative call.
+pub fn relative(state: State, a: u64, length: u64) -> u64
+    ensures { λ r. ⌜ r ≡ relativeOf state a length ⌝ }
+{
+    moved(state, state.next(length), displacement(a))
+}
+
+// Whether a call or a return may go to the target.
+pub fn in_code(state: State, target: u64) -> bool
+    ensures { λ r. ⌜ r ≡ inCode state target ⌝ }
+{
+    if state.is_long() {
+        memory::canonical(target)
+    } else {
+        target <= state.limit
+    }
+}
+
+// How many bytes each push of a call and each pop of a return has.
+pub fn pushed(state: State) -> Size
+    ensures { λ r. ⌜ r ≡ pushedOf state ⌝ }
+{
+    if state.is_long() {
+        Size::Eight
+    } else {
+        Size::Four
+    }
+}
+
+// Whether 4 bytes from here on would run past the end of a 32-bit stack.
+pub fn runs_past(state: State, first: u64) -> bool
+    ensures { λ r. ⌜ r ≡ runsPast state first ⌝ }
+{
+    if state.is_long() {
+        return false;
+    }
+    first > 0xffff_fffc
+}
+
+// Whether the displacement of a relative call is other than 0.
+pub fn displaced(a: u64) -> bool
+    ensures { λ r. ⌜ r ≡ displacedOf a ⌝ }
+{
+    a % 0x1_0000_0000 != 0
+}
+
+// Whether the call pushes on the shadow stack.
+fn pushes_frame(state: State, framed: bool) -> bool
+    ensures { λ r. ⌜ r ≡ pushesFrame state framed ⌝ }
+{
+    if state.enabled() { framed } else { false }
+}
+
+// The call to a target, of a form that makes a shadow frame or of the one that does not; whoever calls this says which. A relative call
+// has the target that `relative` gives, and its form makes a frame where it is `displaced`; that of an absolute call always does.
+pub fn execute(
+    state: State,
+    pages: &[u64],
+    bytes: &mut [u8],
+    target: u64,
+    framed: bool,
+    length: u64,
+) -> Outcome
+    ensures { λ r. ⌜ stepOf r (now (bytes .exit)) ≡ operate (spot (now (pages .entry)) (count (now (bytes .entry)))) (call target framed length state) state (now (bytes .entry)) ⌝ }
+{
+    if !in_code(state, target) {
+        return state.fail(processor::fault(Vector::Protection));
+    }
+    let size = pushed(state);
+    let sp = state.minus(state.sp, size.bytes());
+    if runs_past(state, sp) {
+        return state.fail(processor::fault(Vector::Stack));
+    }
+    let next = state.next(length);
+    let stack = state.ordinary(sp, size, true);
+    let called = state.with_sp(sp);
+    if !pushes_frame(state, framed) {
+        return match stack.store(pages, bytes, next) {
+            Reach::Blocked(failure) => state.fail(processor::blame(stack, failure)),
+            Reach::Ready => called.complete(target),
+        };
+    }
+    let ssp = state.minus(state.ssp, size.bytes());
+    let shadow = state.shadow(ssp, size, true);
+    match stores::store_both(pages, bytes, stack, next, shadow, next) {
+        Stored::NoneStored(fault) => state.fail(fault),
+        Stored::AllStored => {
+            let on_both = called.with_ssp(ssp);
+            on_both.complete(target)
+        }
+    }
+}

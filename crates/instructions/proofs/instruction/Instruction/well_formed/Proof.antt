@@ -1,0 +1,39 @@
+-- `Instruction::well_formed` meets its contract: its tests are those of the definition, in its order. Assumes nothing.
+use mathlib.Core.Path.{sym, _∙_}
+use borrow.Author.Needs.{needs}
+use borrow.Author.Tests.{not-true, not-false}
+use Rattle.instructions.proofs.instruction.Instruction.well_formed.Tie as tie
+use Rattle.instructions.specs.Instruction.{wellFormed}
+use Rattle.instructions.proofs.instruction.Instruction.well_formed.Statement.{statement}
+
+words-fit-requires : tie.Need-words-fit-requires
+words-fit-requires c κs = search needs
+
+returns : tie.Need-returns
+unfolding wellFormed
+returns c = rw (sym (c .before .words-fit .ensures) ∙ not-true _ (c .if1 .taken))
+
+length-fits-requires : tie.Need-length-fits-requires
+length-fits-requires c κs = search needs
+
+returns-2 : tie.Need-returns-2
+unfolding wellFormed
+returns-2 c = rw (sym (c .before .before .before .words-fit .ensures) ∙ not-false _ (c .before .before .if1 .left), sym (c .before .length-fits .ensures) ∙ not-true _ (c .if2 .taken))
+
+mode-fits-requires : tie.Need-mode-fits-requires
+mode-fits-requires c κs = search needs
+
+returns-3 : tie.Need-returns-3
+unfolding wellFormed
+returns-3 c = rw (sym (c .before .before .before .before .words-fit .ensures) ∙ not-false _ (c .before .before .before .if1 .left), sym (c .before .before .length-fits .ensures) ∙ not-false _ (c .before .if2 .left)) (c .mode-fits .ensures)
+
+pub well-formed-spec : {M : Type 1} → statement M
+well-formed-spec =
+    tie.close
+    (tie.spec
+    words-fit-requires
+    returns
+    length-fits-requires
+    returns-2
+    mode-fits-requires
+    returns-3)

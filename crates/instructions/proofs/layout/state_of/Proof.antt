@@ -1,0 +1,55 @@
+-- `state_of` meets its contract: ten words, ten fields. Assumes nothing.
+use borrow.Author.Needs.{needs}
+use Rattle.instructions.proofs.layout.state_of.Tie as tie
+use Rattle.instructions.specs.Layout.{stateOf}
+use Rattle.instructions.proofs.layout.state_of.Statement.{statement}
+
+word-requires : tie.Need-word-requires
+word-requires c κs = search needs
+
+word-requires-2 : tie.Need-word-requires-2
+word-requires-2 c κs = search needs
+
+word-requires-3 : tie.Need-word-requires-3
+word-requires-3 c κs = search needs
+
+word-requires-4 : tie.Need-word-requires-4
+word-requires-4 c κs = search needs
+
+word-requires-5 : tie.Need-word-requires-5
+word-requires-5 c κs = search needs
+
+word-requires-6 : tie.Need-word-requires-6
+word-requires-6 c κs = search needs
+
+word-requires-7 : tie.Need-word-requires-7
+word-requires-7 c κs = search needs
+
+word-requires-8 : tie.Need-word-requires-8
+word-requires-8 c κs = search needs
+
+word-requires-9 : tie.Need-word-requires-9
+word-requires-9 c κs = search needs
+
+word-requires-10 : tie.Need-word-requires-10
+word-requires-10 c κs = search needs
+
+returns : tie.Need-returns
+unfolding stateOf
+returns c = rw (c .before .before .before .before .before .before .before .before .before .word .ensures, c .before .before .before .before .before .before .before .before .word2 .ensures, c .before .before .before .before .before .before .before .word3 .ensures, c .before .before .before .before .before .before .word4 .ensures, c .before .before .before .before .before .word5 .ensures, c .before .before .before .before .word6 .ensures, c .before .before .before .word7 .ensures, c .before .before .word8 .ensures, c .before .word9 .ensures, c .word10 .ensures)
+
+pub state-of-spec : {M : Type 1} → statement M
+state-of-spec =
+    tie.close
+    (tie.spec
+    word-requires
+    word-requires-2
+    word-requires-3
+    word-requires-4
+    word-requires-5
+    word-requires-6
+    word-requires-7
+    word-requires-8
+    word-requires-9
+    word-requires-10
+    returns)

@@ -1,0 +1,30 @@
+// A state, as ten words give it.
+ghost use mathlib.Core.Path.{_≡_};
+ghost use lib.ListN.{getD};
+ghost use Rattle.instructions.specs.Layout.{stateOf};
+use processor::State;
+
+// The i-th word, or 0 where there is none.
+fn word(words: &[u64], i: usize) -> u64
+    ensures { λ r. ⌜ r ≡ getD (now (words .entry)) i 0 ⌝ }
+{
+    if i < words.len() { words[i] } else { 0 }
+}
+
+// The state whose fields are these words, in the order of the rules.
+pub fn state_of(words: &[u64]) -> State
+    ensures { λ r. ⌜ r ≡ stateOf (now (words .entry)) ⌝ }
+{
+    State {
+        mode: word(words, 0),
+        cpl: word(words, 1),
+        cet: word(words, 2),
+        ucet: word(words, 3),
+        scet: word(words, 4),
+        ip: word(words, 5),
+        sp: word(words, 6),
+        ssp: word(words, 7),
+        flags: word(words, 8),
+        limit: word(words, 9),
+    }
+}

@@ -1,0 +1,21 @@
+-- `Width::minus` meets its contract: a difference that wraps at 2^64, cut to the width. Assumes nothing.
+use mathlib.Core.Path.{_∙_}
+use borrow.Author.Needs.{needs}
+use Rattle.pages.proofs.Sums.{minus-wraps}
+use Rattle.pages.proofs.address.Width.minus.Statement.{statement}
+use Rattle.pages.proofs.address.Width.minus.Tie as tie
+
+wrapping-sub-u64-requires : tie.Need-wrapping-sub-u64-requires
+wrapping-sub-u64-requires c κs = search needs
+
+wrap-requires : tie.Need-wrap-requires
+wrap-requires c κs = search needs
+
+returns : tie.Need-returns
+returns c =
+    c .wrap .ensures
+    ∙ minus-wraps (c .before .before .args .self) (c .before .before .args .a) (c .before .before .args .b) (c .before .wrapping-sub-u64 .result)
+    (c .before .wrapping-sub-u64 .ensures)
+
+pub minus-spec : {M : Type 1} → statement M
+minus-spec = tie.close (tie.spec wrapping-sub-u64-requires wrap-requires returns)

@@ -1,0 +1,19 @@
+-- `Width::plus` meets its contract: a sum that wraps at 2^64, cut to the width. Assumes nothing.
+use mathlib.Core.Path.{_∙_, ap}
+use borrow.Author.Needs.{needs}
+use Rattle.pages.specs.Address.{wrapped}
+use Rattle.pages.proofs.Sums.{plus-wraps}
+use Rattle.pages.proofs.address.Width.plus.Statement.{statement}
+use Rattle.pages.proofs.address.Width.plus.Tie as tie
+
+wrapping-add-u64-requires : tie.Need-wrapping-add-u64-requires
+wrapping-add-u64-requires c κs = search needs
+
+wrap-requires : tie.Need-wrap-requires
+wrap-requires c κs = search needs
+
+returns : tie.Need-returns
+returns c = c .wrap .ensures ∙ ap (wrapped (c .before .before .args .self)) (c .before .wrapping-add-u64 .ensures) ∙ plus-wraps (c .before .before .args .self) (c .before .before .args .a) (c .before .before .args .b)
+
+pub plus-spec : {M : Type 1} → statement M
+plus-spec = tie.close (tie.spec wrapping-add-u64-requires wrap-requires returns)

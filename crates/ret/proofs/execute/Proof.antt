@@ -1,0 +1,152 @@
+-- `ret::execute` meets its contract: each return cites the way through the definition that leads to it. Assumes nothing.
+use mathlib.Core.Path.{_≡_, sym, _∙_, ap}
+use mathlib.Core.Bool.{false}
+use lib.ListN.{length as lengthOf}
+use borrow.Author.Tests.{not-true, not-false}
+use borrow.Author.Needs.{needs}
+use Rattle.memory.specs.Access.{load as loadAt}
+use Rattle.pages.specs.Pages.{spot}
+use Rattle.processor.specs.Accesses.{ordinary}
+use Rattle.call.specs.Call.{pushed, runsPast}
+use Rattle.ret.specs.Popped.{resultOf}
+use Rattle.ret.specs.declared.Popped.{Popped}
+use Rattle.ret.proofs.RetWays.{stack-end, pop-blocked, frame-failed, outside, returned}
+use Rattle.ret.proofs.execute.Statement.{statement}
+use Rattle.ret.proofs.execute.Tie as tie
+
+-- what is known after the test, and after the load
+is-inside : (c : tie.Else1) → runsPast (c .before .before .before .before .args .state) (c .before .before .before .before .args .state .sp) ≡ false
+is-inside c = sym (c .before .runs-past .ensures) ∙ c .if1 .left
+
+stack-load : (c : tie.After-ordinary) → c .ordinary .result ≡ ordinary (c .before .before .before .before .before .before .args .state) (c .before .before .before .before .before .before .args .state .sp) (pushed (c .before .before .before .before .before .before .args .state)) false
+stack-load c = rw (c .ordinary .ensures, c .before .pushed .ensures)
+
+found : (c : tie.After-load) → loadAt (spot (c .before .before .before .before .before .before .before .args .pages .now) (lengthOf (c .before .before .before .before .before .before .before .args .bytes .now))) (c .before .before .before .before .before .before .before .args .bytes .now) (ordinary (c .before .before .before .before .before .before .before .args .state) (c .before .before .before .before .before .before .before .args .state .sp) (pushed (c .before .before .before .before .before .before .before .args .state)) false) ≡ c .load .result
+found c = rw (← stack-load (c .before)) (sym (c .load .ensures))
+
+runs-past-requires : tie.Need-runs-past-requires
+runs-past-requires c κs = search needs
+
+fault-requires : tie.Need-fault-requires
+fault-requires c κs = search needs
+
+fail-requires : tie.Need-fail-requires
+fail-requires c κs = search needs
+
+returns : tie.Need-returns
+returns c =
+    rw (c .fail .ensures, c .before .fault .ensures)
+    (sym (stack-end _ _ _ _ (sym (c .before .before .before .runs-past .ensures) ∙ c .before .before .if1 .taken)))
+
+pushed-requires : tie.Need-pushed-requires
+pushed-requires c κs = search needs
+
+ordinary-requires : tie.Need-ordinary-requires
+ordinary-requires c κs = search needs
+
+load-requires : tie.Need-load-requires
+load-requires c κs = search needs
+
+enum-known-failure : tie.Need-enum-known-failure
+enum-known-failure c = search needs
+
+blame-requires : tie.Need-blame-requires
+blame-requires c κs = search needs
+
+fail-requires-2 : tie.Need-fail-requires-2
+fail-requires-2 c κs = search needs
+
+enum-known-target : tie.Need-enum-known-target
+enum-known-target c = search needs
+
+new-ssp-requires : tie.Need-new-ssp-requires
+new-ssp-requires c κs = search needs
+
+enum-known-fault : tie.Need-enum-known-fault
+enum-known-fault c = search needs
+
+fail-requires-3 : tie.Need-fail-requires-3
+fail-requires-3 c κs = search needs
+
+enum-known-ssp : tie.Need-enum-known-ssp
+enum-known-ssp c = search needs
+
+bytes-requires : tie.Need-bytes-requires
+bytes-requires c κs = search needs
+
+plus-requires : tie.Need-plus-requires
+plus-requires c κs = search needs
+
+plus-requires-2 : tie.Need-plus-requires-2
+plus-requires-2 c κs = search needs
+
+with-sp-requires : tie.Need-with-sp-requires
+with-sp-requires c κs = search needs
+
+with-ssp-requires : tie.Need-with-ssp-requires
+with-ssp-requires c κs = search needs
+
+in-code-requires : tie.Need-in-code-requires
+in-code-requires c κs = search needs
+
+fault-requires-2 : tie.Need-fault-requires-2
+fault-requires-2 c κs = search needs
+
+fail-requires-4 : tie.Need-fail-requires-4
+fail-requires-4 c κs = search needs
+
+returns-2 : tie.Need-returns-2
+returns-2 c =
+    rw (c .fail4 .ensures, c .before .fault3 .ensures)
+    (sym (outside _ _ _ _ (is-inside (c .before .before .before .before .before .before .before .before .before .before .before .before .before .before .before .before .before .before .before)) _ (found (c .before .before .before .before .before .before .before .before .before .before .before .before .before .before .before .before) ∙ c .before .before .before .before .before .before .before .before .before .before .before .before .before .before .target .given .1) _ (sym (c .before .before .before .before .before .before .before .before .before .before .before .before .new-ssp .ensures) ∙ ap (λ (p : Popped). resultOf p (c .before .before .before .before .before .before .before .before .before .before .before .before .before .before .before .before .before .before .before .before .before .before .before .args .bytes .now)) (c .before .before .before .before .before .before .before .before .before .before .ssp .given .1)) (sym (c .before .before .before .in-code .ensures) ∙ not-true _ (c .before .before .if2 .taken))))
+
+complete-requires : tie.Need-complete-requires
+complete-requires c κs = search needs
+
+returns-3 : tie.Need-returns-3
+returns-3 c =
+    rw (c .fail2 .ensures, c .before .blame .ensures, stack-load (c .before .before .before .before .before .before))
+    (sym (pop-blocked _ _ _ _ (is-inside (c .before .before .before .before .before .before .before .before)) _ (found (c .before .before .before .before .before) ∙ c .before .before .before .failure .given .1)))
+
+returns-4 : tie.Need-returns-4
+returns-4 c =
+    rw (c .fail3 .ensures)
+    (sym (frame-failed _ _ _ _ (is-inside (c .before .before .before .before .before .before .before .before .before .before .before)) _ (found (c .before .before .before .before .before .before .before .before) ∙ c .before .before .before .before .before .before .target .given .1) _ (sym (c .before .before .before .before .new-ssp .ensures) ∙ ap (λ (p : Popped). resultOf p (c .before .before .before .before .before .before .before .before .before .before .before .before .before .before .before .args .bytes .now)) (c .before .before .fault2 .given .1))))
+
+returns-5 : tie.Need-returns-5
+returns-5 c =
+    rw (c .complete .ensures, c .before .before .before .with-ssp .ensures, c .before .before .before .before .with-sp .ensures, c .before .before .before .before .before .plus2 .ensures, c .before .before .before .before .before .before .plus .ensures, c .before .before .before .before .before .before .before .bytes .ensures, c .before .before .before .before .before .before .before .before .before .before .before .before .before .before .before .before .before .pushed .ensures)
+    (sym (returned _ _ _ _ (is-inside (c .before .before .before .before .before .before .before .before .before .before .before .before .before .before .before .before .before .before)) _ (found (c .before .before .before .before .before .before .before .before .before .before .before .before .before .before .before) ∙ c .before .before .before .before .before .before .before .before .before .before .before .before .before .target .given .1) _ (sym (c .before .before .before .before .before .before .before .before .before .before .before .new-ssp .ensures) ∙ ap (λ (p : Popped). resultOf p (c .before .before .before .before .before .before .before .before .before .before .before .before .before .before .before .before .before .before .before .before .before .before .args .bytes .now)) (c .before .before .before .before .before .before .before .before .before .ssp .given .1)) (sym (c .before .before .in-code .ensures) ∙ not-false _ (c .before .if2 .left))))
+
+pub execute-spec : {M : Type 1} → statement M
+execute-spec =
+    tie.close
+    (tie.spec
+    runs-past-requires
+    fault-requires
+    fail-requires
+    returns
+    pushed-requires
+    ordinary-requires
+    load-requires
+    enum-known-failure
+    blame-requires
+    fail-requires-2
+    enum-known-target
+    new-ssp-requires
+    enum-known-fault
+    fail-requires-3
+    enum-known-ssp
+    bytes-requires
+    plus-requires
+    plus-requires-2
+    with-sp-requires
+    with-ssp-requires
+    in-code-requires
+    fault-requires-2
+    fail-requires-4
+    returns-2
+    complete-requires
+    returns-3
+    returns-4
+    returns-5)

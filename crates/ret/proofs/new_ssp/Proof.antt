@@ -1,0 +1,87 @@
+-- `new_ssp` meets its contract, by what the shadow load gives. Assumes nothing.
+use mathlib.Core.Path.{_≡_, sym, _∙_}
+use mathlib.Core.Bool.{true, false}
+use lib.ListN.{length as lengthOf}
+use borrow.Author.Tests.{not-true, not-false}
+use borrow.Author.Needs.{needs}
+use Rattle.memory.specs.Access.{load as loadAt}
+use Rattle.pages.specs.Pages.{spot}
+use Rattle.processor.specs.State.{enabled}
+use Rattle.processor.specs.Accesses.{shadow}
+use Rattle.call.specs.Call.{pushed}
+use Rattle.ret.proofs.RetWays.{not-asked, frame-blocked, frame-differs, frame-popped}
+use Rattle.ret.proofs.new_ssp.Statement.{statement}
+use Rattle.ret.proofs.new_ssp.Tie as tie
+
+-- what is known after the test, and after the load
+is-on : (c : tie.Else1) → enabled (c .before .before .before .before .args .state) ≡ true
+is-on c = sym (c .before .enabled .ensures) ∙ not-false _ (c .if1 .left)
+
+frame-load : (c : tie.After-shadow) → c .shadow .result ≡ shadow (c .before .before .before .before .before .before .args .state) (c .before .before .before .before .before .before .args .state .ssp) (pushed (c .before .before .before .before .before .before .args .state)) false
+frame-load c = rw (c .shadow .ensures, c .before .pushed .ensures)
+
+found : (c : tie.After-load) → loadAt (spot (c .before .before .before .before .before .before .before .args .pages .now) (lengthOf (c .before .before .before .before .before .before .before .args .bytes .now))) (c .before .before .before .before .before .before .before .args .bytes .now) (shadow (c .before .before .before .before .before .before .before .args .state) (c .before .before .before .before .before .before .before .args .state .ssp) (pushed (c .before .before .before .before .before .before .before .args .state)) false) ≡ c .load .result
+found c = rw (← frame-load (c .before)) (sym (c .load .ensures))
+
+enabled-requires : tie.Need-enabled-requires
+enabled-requires c κs = search needs
+
+returns : tie.Need-returns
+returns c = sym (not-asked _ _ _ _ (sym (c .before .enabled .ensures) ∙ not-true _ (c .if1 .taken)))
+
+pushed-requires : tie.Need-pushed-requires
+pushed-requires c κs = search needs
+
+shadow-requires : tie.Need-shadow-requires
+shadow-requires c κs = search needs
+
+load-requires : tie.Need-load-requires
+load-requires c κs = search needs
+
+enum-known-failure : tie.Need-enum-known-failure
+enum-known-failure c = search needs
+
+blame-requires : tie.Need-blame-requires
+blame-requires c κs = search needs
+
+enum-known-frame : tie.Need-enum-known-frame
+enum-known-frame c = search needs
+
+bytes-requires : tie.Need-bytes-requires
+bytes-requires c κs = search needs
+
+plus-requires : tie.Need-plus-requires
+plus-requires c κs = search needs
+
+control-fault-requires : tie.Need-control-fault-requires
+control-fault-requires c κs = search needs
+
+returns-2 : tie.Need-returns-2
+returns-2 c = rw (c .blame .ensures, frame-load (c .before .before .before .before .before)) (sym (frame-blocked _ _ _ _ (is-on (c .before .before .before .before .before .before .before)) _ (found (c .before .before .before .before) ∙ c .before .before .failure .given .1)))
+
+returns-3 : tie.Need-returns-3
+returns-3 c =
+    rw (c .plus .ensures, c .before .bytes .ensures, c .before .before .before .before .before .before .before .before .pushed .ensures)
+    (sym (frame-popped _ _ _ _ (is-on (c .before .before .before .before .before .before .before .before .before)) _ (found (c .before .before .before .before .before .before) ∙ c .before .before .before .before .frame .given .1) (c .before .before .if2 .taken)))
+
+returns-4 : tie.Need-returns-4
+returns-4 c = rw (c .control-fault .ensures) (sym (frame-differs _ _ _ _ (is-on (c .before .before .before .before .before .before .before .before)) _ (found (c .before .before .before .before .before) ∙ c .before .before .before .frame .given .1) (c .before .if2 .left)))
+
+pub new-ssp-spec : {M : Type 1} → statement M
+new-ssp-spec =
+    tie.close
+    (tie.spec
+    enabled-requires
+    returns
+    pushed-requires
+    shadow-requires
+    load-requires
+    enum-known-failure
+    blame-requires
+    enum-known-frame
+    bytes-requires
+    plus-requires
+    control-fault-requires
+    returns-2
+    returns-3
+    returns-4)

@@ -1,0 +1,2 @@
+pub mod Ret
+pub mod Popped

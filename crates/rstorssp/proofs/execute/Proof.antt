@@ -1,0 +1,175 @@
+-- `rstorssp::execute` meets its contract: each return cites the way through the definition that leads to it. Assumes nothing.
+use mathlib.Core.Path.{_≡_, sym, _∙_}
+use mathlib.Core.Bool.{true}
+use native.Mathlib.Omega.{arith}
+use lib.ListN.{length as count}
+use borrow.Author.Tests.{not-true, not-false}
+use borrow.Author.Needs.{needs}
+use Rattle.processor.proofs.Laws.{long-small}
+use Rattle.memory.specs.Access.{load as loadAt}
+use Rattle.pages.specs.Pages.{spot}
+use Rattle.memory.specs.declared.access.Size.the-variants.{Eight}
+use Rattle.memory.proofs.Laws.{loaded-value, store-done}
+use Rattle.processor.specs.State.{usable}
+use Rattle.processor.specs.Accesses.{shadow}
+use Rattle.rstorssp.proofs.RstorsspWays.{not-usable, not-aligned, blocked, bad-token, restored}
+use Rattle.rstorssp.proofs.execute.Statement.{statement}
+use Rattle.rstorssp.proofs.execute.Tie as tie
+
+usable-requires : tie.Need-usable-requires
+usable-requires c κs = search needs
+
+fault-requires : tie.Need-fault-requires
+fault-requires c κs = search needs
+
+fail-requires : tie.Need-fail-requires
+fail-requires c κs = search needs
+
+-- what is known after each test, and after the load
+is-usable : (c : tie.Else1) → usable (c .before .before .before .before .args .state) ≡ true
+is-usable c = sym (c .before .usable .ensures) ∙ not-false _ (c .if1 .left)
+
+found : (c : tie.After-load) → loadAt (spot (c .before .before .before .before .before .before .before .before .args .pages .now) (count (c .before .before .before .before .before .before .before .before .args .bytes .now))) (c .before .before .before .before .before .before .before .before .args .bytes .now) (shadow (c .before .before .before .before .before .before .before .before .args .state) (c .before .before .before .before .before .before .before .before .args .a) Eight true) ≡ c .load .result
+found c = rw (← c .before .before .shadow .ensures) (sym (c .load .ensures))
+
+returns : tie.Need-returns
+returns c =
+    rw (c .fail .ensures, c .before .fault .ensures)
+    (sym (not-usable _ _ _ _ _ (sym (c .before .before .before .usable .ensures) ∙ not-true _ (c .before .before .if1 .taken))))
+
+fault-requires-2 : tie.Need-fault-requires-2
+fault-requires-2 c κs = search needs
+
+fail-requires-2 : tie.Need-fail-requires-2
+fail-requires-2 c κs = search needs
+
+returns-2 : tie.Need-returns-2
+returns-2 c =
+    rw (c .fail2 .ensures, c .before .fault2 .ensures)
+    (sym (not-aligned _ _ _ _ _ (is-usable (c .before .before .before)) (c .before .before .if2 .taken)))
+
+shadow-requires : tie.Need-shadow-requires
+shadow-requires c κs = search needs
+
+load-requires : tie.Need-load-requires
+load-requires c κs = search needs
+
+enum-known-failure : tie.Need-enum-known-failure
+enum-known-failure c = search needs
+
+blame-requires : tie.Need-blame-requires
+blame-requires c κs = search needs
+
+fail-requires-3 : tie.Need-fail-requires-3
+fail-requires-3 c κs = search needs
+
+enum-known-token : tie.Need-enum-known-token
+enum-known-token c = search needs
+
+good-token-requires : tie.Need-good-token-requires
+good-token-requires c κs = search needs
+
+control-fault-requires : tie.Need-control-fault-requires
+control-fault-requires c κs = search needs
+
+fail-requires-4 : tie.Need-fail-requires-4
+fail-requires-4 c κs = search needs
+
+same-length : tie.Need-same-length
+same-length c = search needs
+
+returns-3 : tie.Need-returns-3
+returns-3 c =
+    rw (c .fail4 .ensures, c .before .control-fault .ensures)
+    (sym (bad-token _ _ _ _ _ (is-usable (c .before .before .before .before .before .before .before .before .before .before .before)) (c .before .before .before .before .before .before .before .before .before .before .if2 .left) _ (found (c .before .before .before .before .before .before .before) ∙ c .before .before .before .before .before .token .given .1) (sym (c .before .before .before .good-token .ensures) ∙ not-true _ (c .before .before .if3 .taken))))
+
+long-bit-requires : tie.Need-long-bit-requires
+long-bit-requires c κs = search needs
+
+add-plus : tie.Need-add-plus
+add-plus c = omega (arith, c .long-bit .ensures, long-small (c .before .before .before .before .before .before .before .before .before .before .before .before .before .before .args .state))
+
+plus-requires : tie.Need-plus-requires
+plus-requires c κs = search needs
+
+store-requires : tie.Need-store-requires
+store-requires c κs = search needs
+
+with-ssp-requires : tie.Need-with-ssp-requires
+with-ssp-requires c κs = search needs
+
+restored-flags-requires : tie.Need-restored-flags-requires
+restored-flags-requires c κs = search needs
+
+with-flags-requires : tie.Need-with-flags-requires
+with-flags-requires c κs = search needs
+
+next-requires : tie.Need-next-requires
+next-requires c κs = search needs
+
+complete-requires : tie.Need-complete-requires
+complete-requires c κs = search needs
+
+same-length-2 : tie.Need-same-length-2
+same-length-2 c = search needs
+
+returns-4 : tie.Need-returns-4
+returns-4 c =
+    rw (c .fail3 .ensures, c .before .blame .ensures, c .before .before .before .before .before .before .before .shadow .ensures)
+    (sym (blocked _ _ _ _ _ (is-usable (c .before .before .before .before .before .before .before .before .before)) (c .before .before .before .before .before .before .before .before .if2 .left) _ (found (c .before .before .before .before .before) ∙ c .before .before .before .failure .given .1)))
+
+same-length-3 : tie.Need-same-length-3
+same-length-3 c = search needs
+
+returns-5 : tie.Need-returns-5
+returns-5 c =
+    let value = found (c .before .before .before .before .before .before .before .before .before .before .before .before .before .before .before .before) ∙ c .before .before .before .before .before .before .before .before .before .before .before .before .before .before .token .given .1 in
+    rw (
+      c .complete .ensures,
+      c .before .next .ensures,
+      c .before .before .with-flags .ensures,
+      c .before .before .before .restored-flags .ensures,
+      c .before .before .before .before .with-ssp .ensures,
+      c .before .before .before .before .before .before .before .store .ensures .1,
+      c .before .before .before .before .before .before .before .before .before .before .before .before .before .before .before .before .before .before .shadow .ensures,
+      c .before .before .before .before .before .before .before .before .before .plus .ensures,
+      c .before .before .before .before .before .before .before .before .before .before .long-bit .ensures,
+      store-done _ _ _ _ (loaded-value _ _ _ _ value .0),
+    )
+    (sym (restored _ _ _ _ _ (is-usable (c .before .before .before .before .before .before .before .before .before .before .before .before .before .before .before .before .before .before .before .before)) (c .before .before .before .before .before .before .before .before .before .before .before .before .before .before .before .before .before .before .before .if2 .left) _ value (sym (c .before .before .before .before .before .before .before .before .before .before .before .before .good-token .ensures) ∙ not-false _ (c .before .before .before .before .before .before .before .before .before .before .before .if3 .left))))
+
+pub execute-spec : {M : Type 1} → statement M
+execute-spec =
+    tie.close
+    (tie.spec
+    usable-requires
+    fault-requires
+    fail-requires
+    returns
+    fault-requires-2
+    fail-requires-2
+    returns-2
+    shadow-requires
+    load-requires
+    enum-known-failure
+    blame-requires
+    fail-requires-3
+    enum-known-token
+    good-token-requires
+    control-fault-requires
+    fail-requires-4
+    same-length
+    returns-3
+    long-bit-requires
+    add-plus
+    plus-requires
+    store-requires
+    with-ssp-requires
+    restored-flags-requires
+    with-flags-requires
+    next-requires
+    complete-requires
+    same-length-2
+    returns-4
+    same-length-3
+    returns-5)

@@ -1,0 +1,113 @@
+-- The ways through SAVEPREVSSP, each by the tests and accesses on it. Assumes nothing.
+use Prim.Native.Nat.{ℕ, _+_, _%_}
+use mathlib.Core.Path.{_≡_, _∙_, ap}
+use mathlib.Core.Bool.{true, false, not, _&&_}
+use mathlib.Core.List.{List}
+use lib.Dec.{eqb}
+use borrow.Author.Tests.{eq-eqb, ne-eqb}
+use Rattle.memory.specs.Access.{load as loadAt}
+use Rattle.pages.specs.Pages.{Lookup}
+use Rattle.memory.specs.declared.access.Failure.{Failure}
+use Rattle.memory.specs.declared.access.Size.the-variants.{Four, Eight}
+use Rattle.memory.specs.declared.load.Loaded.the-variants.{Value, Blocked as Unloaded}
+use Rattle.answers.specs.Answer.{ud, gp}
+use Rattle.processor.specs.State.{isLong, longBit, usable, plus, minus, next, withSsp}
+use Rattle.processor.specs.Accesses.{shadow}
+use Rattle.answers.specs.Blame.{blame}
+use Rattle.processor.specs.Outcomes.{completed, faulted, stepOf}
+use Rattle.processor.specs.Prog.{ended, broken, storeBoth, interp, settle, operate}
+use Rattle.answers.specs.declared.answer.Fault.{Fault}
+use Rattle.processor.specs.declared.state.State.{State}
+use Rattle.processor.proofs.Laws.{passed, halted, loaded, not-loaded, continues, breaks, completes, faults}
+use Rattle.bits.specs.Bits.{multiple}
+use Rattle.saveprevssp.specs.Saveprevssp.{carry, popHole, newTop, savedToken, leaveToken, saveprevssp}
+
+-- ---- the hole
+
+module _ (look : Lookup) (bytes : List ℕ) (s : State) (top : ℕ) where
+  pub hole-blocked : (failure : Failure) → loadAt look bytes (shadow s top Four false) ≡ Unloaded failure → interp look (popHole s top) bytes ≡ broken (blame (shadow s top Four false) failure)
+  unfolding popHole
+  hole-blocked failure e = not-loaded look bytes (shadow s top Four false) _ failure e
+
+  pub hole-filled : (hole : ℕ) → loadAt look bytes (shadow s top Four false) ≡ Value hole → (hole ≡ 0 → ⊥) → interp look (popHole s top) bytes ≡ broken gp
+  unfolding popHole
+  hole-filled hole e full = loaded look bytes (shadow s top Four false) _ hole e ∙ halted look bytes (eqb hole 0) gp _ (ne-eqb _ _ full)
+
+  pub hole-popped : (hole : ℕ) → loadAt look bytes (shadow s top Four false) ≡ Value hole → hole ≡ 0 → interp look (popHole s top) bytes ≡ ended (plus s top 4) bytes
+  unfolding popHole interp
+  hole-popped hole e empty = loaded look bytes (shadow s top Four false) _ hole e ∙ passed look bytes (eqb hole 0) gp _ (eq-eqb _ _ empty)
+
+  pub no-hole : carry s ≡ false → interp look (newTop s top) bytes ≡ ended top bytes
+  unfolding newTop interp
+  no-hole c = passed look bytes (not (carry s && isLong s)) gp _ (rw c) ∙ rw c
+
+  pub hole-in-long : carry s ≡ true → isLong s ≡ true → interp look (newTop s top) bytes ≡ broken gp
+  unfolding newTop
+  hole-in-long c l = halted look bytes (not (carry s && isLong s)) gp _ (rw (c, l))
+
+  pub a-hole : carry s ≡ true → isLong s ≡ false → interp look (newTop s top) bytes ≡ interp look (popHole s top) bytes
+  unfolding newTop
+  a-hole c l = passed look bytes (not (carry s && isLong s)) gp _ (rw (c, l)) ∙ rw c
+
+-- ---- with the token popped
+
+module _ (look : Lookup) (bytes : List ℕ) (token length : ℕ) (s : State) where
+  pub top-failed : (fault : Fault) → interp look (newTop s (plus s (s .ssp) 8)) bytes ≡ broken fault → operate look (leaveToken token length s) s bytes ≡ stepOf (faulted s fault) bytes
+  unfolding leaveToken
+  top-failed fault e = faults look _ s bytes fault (breaks look _ (newTop s (plus s (s .ssp) 8)) bytes fault e)
+
+  module _ (top : ℕ) (t : interp look (newTop s (plus s (s .ssp) 8)) bytes ≡ ended top bytes) where
+    pub not-saved : savedToken s token ≡ false → operate look (leaveToken token length s) s bytes ≡ stepOf (faulted s gp) bytes
+    unfolding leaveToken
+    not-saved e = faults look _ s bytes gp (continues look _ (newTop s (plus s (s .ssp) 8)) bytes top bytes t ∙ halted look bytes (savedToken s token) gp _ e)
+
+    module _ (saved : savedToken s token ≡ true) where
+      pub not-left : (fault : Fault)
+          → interp look (storeBoth (shadow s (minus s (multiple 4 token) 4) Four true) 0 (shadow s (minus s (multiple 8 (multiple 4 token)) 8) Eight true) (multiple 4 token + longBit s)) bytes ≡ broken fault
+          → operate look (leaveToken token length s) s bytes ≡ stepOf (faulted s fault) bytes
+      unfolding leaveToken
+      not-left fault e =
+          faults look _ s bytes fault
+          (continues look _ (newTop s (plus s (s .ssp) 8)) bytes top bytes t
+          ∙ passed look bytes (savedToken s token) gp _ saved
+          ∙ breaks look _ (storeBoth (shadow s (minus s (multiple 4 token) 4) Four true) 0 (shadow s (minus s (multiple 8 (multiple 4 token)) 8) Eight true) (multiple 4 token + longBit s)) bytes fault e)
+
+      pub left-behind : (after : List ℕ)
+          → interp look (storeBoth (shadow s (minus s (multiple 4 token) 4) Four true) 0 (shadow s (minus s (multiple 8 (multiple 4 token)) 8) Eight true) (multiple 4 token + longBit s)) bytes ≡ ended tt after
+          → operate look (leaveToken token length s) s bytes ≡ stepOf (completed (withSsp s top) (next s length)) after
+      unfolding leaveToken interp
+      left-behind after e =
+          completes look _ s bytes _ after
+          (continues look _ (newTop s (plus s (s .ssp) 8)) bytes top bytes t
+          ∙ passed look bytes (savedToken s token) gp _ saved
+          ∙ continues look _ (storeBoth (shadow s (minus s (multiple 4 token) 4) Four true) 0 (shadow s (minus s (multiple 8 (multiple 4 token)) 8) Eight true) (multiple 4 token + longBit s)) bytes tt after e)
+
+-- ---- the whole
+
+module _ (look : Lookup) (bytes : List ℕ) (length : ℕ) (s : State) where
+  pub not-usable : usable s ≡ false → operate look (saveprevssp length s) s bytes ≡ stepOf (faulted s ud) bytes
+  unfolding saveprevssp
+  not-usable u = faults look _ s bytes ud (halted look bytes (usable s) ud _ u)
+
+  module _ (u : usable s ≡ true) where
+    pub not-aligned : (s .ssp % 8 ≡ 0 → ⊥) → operate look (saveprevssp length s) s bytes ≡ stepOf (faulted s gp) bytes
+    unfolding saveprevssp
+    not-aligned e = faults look _ s bytes gp (passed look bytes (usable s) ud _ u ∙ halted look bytes (eqb (s .ssp % 8) 0) gp _ (ne-eqb _ _ e))
+
+    module _ (aligned : s .ssp % 8 ≡ 0) where
+      pub blocked : (failure : Failure) → loadAt look bytes (shadow s (s .ssp) Eight false) ≡ Unloaded failure
+          → operate look (saveprevssp length s) s bytes ≡ stepOf (faulted s (blame (shadow s (s .ssp) Eight false) failure)) bytes
+      unfolding saveprevssp
+      blocked failure e =
+          faults look _ s bytes _
+          (passed look bytes (usable s) ud _ u
+          ∙ passed look bytes (eqb (s .ssp % 8) 0) gp _ (eq-eqb _ _ aligned)
+          ∙ not-loaded look bytes (shadow s (s .ssp) Eight false) _ failure e)
+
+      pub popped : (token : ℕ) → loadAt look bytes (shadow s (s .ssp) Eight false) ≡ Value token → operate look (saveprevssp length s) s bytes ≡ operate look (leaveToken token length s) s bytes
+      unfolding saveprevssp operate
+      popped token e =
+          ap (settle s bytes)
+          (passed look bytes (usable s) ud _ u
+          ∙ passed look bytes (eqb (s .ssp % 8) 0) gp _ (eq-eqb _ _ aligned)
+          ∙ loaded look bytes (shadow s (s .ssp) Eight false) _ token e)

@@ -1,0 +1,105 @@
+-- `saveprevssp::execute` meets its contract: each return cites the way through the definition that leads to it. Assumes nothing.
+use mathlib.Core.Path.{_≡_, sym, _∙_}
+use mathlib.Core.Bool.{true, false}
+use lib.ListN.{length as count}
+use borrow.Author.Tests.{not-true, not-false}
+use borrow.Author.Needs.{needs}
+use Rattle.memory.specs.Access.{load as loadAt}
+use Rattle.pages.specs.Pages.{spot}
+use Rattle.memory.specs.declared.access.Size.the-variants.{Eight}
+use Rattle.processor.specs.State.{usable}
+use Rattle.processor.specs.Accesses.{shadow}
+use Rattle.saveprevssp.proofs.SaveprevsspWays.{not-usable, not-aligned, blocked, popped}
+use Rattle.saveprevssp.proofs.execute.Statement.{statement}
+use Rattle.saveprevssp.proofs.execute.Tie as tie
+
+usable-requires : tie.Need-usable-requires
+usable-requires c κs = search needs
+
+fault-requires : tie.Need-fault-requires
+fault-requires c κs = search needs
+
+fail-requires : tie.Need-fail-requires
+fail-requires c κs = search needs
+
+is-usable : (c : tie.Else1) → usable (c .before .before .before .before .args .state) ≡ true
+is-usable c = sym (c .before .usable .ensures) ∙ not-false _ (c .if1 .left)
+
+found : (c : tie.After-load) → loadAt (spot (c .before .before .before .before .before .before .before .before .before .args .pages .now) (count (c .before .before .before .before .before .before .before .before .before .args .bytes .now))) (c .before .before .before .before .before .before .before .before .before .args .bytes .now) (shadow (c .before .before .before .before .before .before .before .before .before .args .state) (c .before .before .before .before .before .before .before .before .before .args .state .ssp) Eight false) ≡ c .load .result
+found c = rw (← c .before .before .shadow .ensures) (sym (c .load .ensures))
+
+returns : tie.Need-returns
+returns c =
+    rw (c .fail .ensures, c .before .fault .ensures)
+    (sym (not-usable _ _ _ _ (sym (c .before .before .before .usable .ensures) ∙ not-true _ (c .before .before .if1 .taken))))
+
+fault-requires-2 : tie.Need-fault-requires-2
+fault-requires-2 c κs = search needs
+
+fail-requires-2 : tie.Need-fail-requires-2
+fail-requires-2 c κs = search needs
+
+returns-2 : tie.Need-returns-2
+returns-2 c =
+    rw (c .fail2 .ensures, c .before .fault2 .ensures)
+    (sym (not-aligned _ _ _ _ (is-usable (c .before .before .before .before)) (c .before .before .if2 .taken)))
+
+shadow-requires : tie.Need-shadow-requires
+shadow-requires c κs = search needs
+
+load-requires : tie.Need-load-requires
+load-requires c κs = search needs
+
+enum-known-failure : tie.Need-enum-known-failure
+enum-known-failure c = search needs
+
+blame-requires : tie.Need-blame-requires
+blame-requires c κs = search needs
+
+fail-requires-3 : tie.Need-fail-requires-3
+fail-requires-3 c κs = search needs
+
+enum-known-token : tie.Need-enum-known-token
+enum-known-token c = search needs
+
+leave-token-requires : tie.Need-leave-token-requires
+leave-token-requires c κs = search needs
+
+same-length : tie.Need-same-length
+same-length c = search needs
+
+returns-3 : tie.Need-returns-3
+returns-3 c =
+    rw (c .fail3 .ensures, c .before .blame .ensures, c .before .before .before .before .before .before .before .shadow .ensures)
+    (sym (blocked _ _ _ _ (is-usable (c .before .before .before .before .before .before .before .before .before .before)) (c .before .before .before .before .before .before .before .before .if2 .left) _ (found (c .before .before .before .before .before) ∙ c .before .before .before .failure .given .1)))
+
+same-length-2 : tie.Need-same-length-2
+same-length-2 c = search needs
+
+returns-4 : tie.Need-returns-4
+returns-4 c =
+    c .before .before .leave-token .ensures
+    ∙ sym (popped _ _ _ _ (is-usable (c .before .before .before .before .before .before .before .before .before .before .before .before)) (c .before .before .before .before .before .before .before .before .before .before .if2 .left) _ (found (c .before .before .before .before .before .before .before) ∙ c .before .before .before .before .before .token .given .1))
+
+pub execute-spec : {M : Type 1} → statement M
+execute-spec =
+    tie.close
+    (tie.spec
+    usable-requires
+    fault-requires
+    fail-requires
+    returns
+    fault-requires-2
+    fail-requires-2
+    returns-2
+    shadow-requires
+    load-requires
+    enum-known-failure
+    blame-requires
+    fail-requires-3
+    enum-known-token
+    leave-token-requires
+    same-length
+    returns-3
+    same-length-2
+    returns-4)

@@ -1,0 +1,61 @@
+-- `pop_hole` meets its contract, by what the load gives. Assumes nothing.
+use mathlib.Core.Path.{_≡_, sym, _∙_}
+use mathlib.Core.Bool.{false}
+use lib.ListN.{length as count}
+use borrow.Author.Needs.{needs}
+use Rattle.memory.specs.Access.{load as loadAt}
+use Rattle.pages.specs.Pages.{spot}
+use Rattle.memory.specs.declared.access.Size.the-variants.{Four}
+use Rattle.processor.specs.State.{plus}
+use Rattle.processor.specs.Accesses.{shadow}
+use Rattle.saveprevssp.proofs.SaveprevsspWays.{hole-blocked, hole-filled, hole-popped}
+use Rattle.saveprevssp.proofs.pop_hole.Statement.{statement}
+use Rattle.saveprevssp.proofs.pop_hole.Tie as tie
+
+shadow-requires : tie.Need-shadow-requires
+shadow-requires c κs = search needs
+
+load-requires : tie.Need-load-requires
+load-requires c κs = search needs
+
+enum-known-failure : tie.Need-enum-known-failure
+enum-known-failure c = search needs
+
+blame-requires : tie.Need-blame-requires
+blame-requires c κs = search needs
+
+enum-known-hole : tie.Need-enum-known-hole
+enum-known-hole c = search needs
+
+plus-requires : tie.Need-plus-requires
+plus-requires c κs = search needs
+
+fault-requires : tie.Need-fault-requires
+fault-requires c κs = search needs
+
+found : (c : tie.After-load) → loadAt (spot (c .before .before .before .before .args .pages .now) (count (c .before .before .before .before .args .bytes .now))) (c .before .before .before .before .args .bytes .now) (shadow (c .before .before .before .before .args .state) (c .before .before .before .before .args .top) Four false) ≡ c .load .result
+found c = rw (← c .before .shadow .ensures) (sym (c .load .ensures))
+
+returns : tie.Need-returns
+returns c = rw (c .blame .ensures, c .before .before .before .before .before .shadow .ensures) (sym (hole-blocked _ _ _ _ _ (found (c .before .before .before .before) ∙ c .before .before .failure .given .1)))
+
+returns-2 : tie.Need-returns-2
+returns-2 c = rw (c .plus .ensures) (sym (hole-popped _ _ _ _ _ (found (c .before .before .before .before .before) ∙ c .before .before .before .hole .given .1) (c .before .if1 .taken)))
+
+returns-3 : tie.Need-returns-3
+returns-3 c = rw (c .fault .ensures) (sym (hole-filled _ _ _ _ _ (found (c .before .before .before .before .before) ∙ c .before .before .before .hole .given .1) (c .before .if1 .left)))
+
+pub pop-hole-spec : {M : Type 1} → statement M
+pop-hole-spec =
+    tie.close
+    (tie.spec
+    shadow-requires
+    load-requires
+    enum-known-failure
+    blame-requires
+    enum-known-hole
+    plus-requires
+    fault-requires
+    returns
+    returns-2
+    returns-3)

@@ -1,0 +1,2 @@
+pub mod Saveprevssp
+pub mod Popped

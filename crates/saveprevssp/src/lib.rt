@@ -1,0 +1,112 @@
+// SAVEPREVSSP: leave a restore token on the previous shadow stack.
+ghost use mathlib.Core.Path.{_≡_};
+ghost use lib.ListN.{length as count};
+ghost use Rattle.pages.specs.Pages.{spot};
+ghost use Rattle.processor.specs.Prog.{interp, operate};
+ghost use Rattle.processor.specs.Outcomes.{stepOf};
+ghost use Rattle.saveprevssp.specs.Saveprevssp.{carry as carryOf, popHole, newTop, savedToken, leaveToken, saveprevssp as saveprevsspOf};
+ghost use Rattle.saveprevssp.specs.Popped.{resultOf};
+use memory::Loaded;
+use memory::Size;
+use processor::Fault;
+use processor::Outcome;
+use processor::State;
+use processor::Vector;
+use stores::Stored;
+
+// The new top of the stack, or the fault on the way to it.
+enum Popped {
+    Top(u64),
+    Failed(Fault),
+}
+
+// CF.
+fn carry(state: State) -> bool
+    ensures { λ r. ⌜ r ≡ carryOf state ⌝ }
+{
+    state.flags % 2 == 1
+}
+
+// Pops the 4 bytes of the hole, which must be 0.
+fn pop_hole(state: State, pages: &[u64], bytes: &[u8], top: u64) -> Popped
+    ensures { λ r. ⌜ resultOf r (now (bytes .entry)) ≡ interp (spot (now (pages .entry)) (count (now (bytes .entry)))) (popHole state top) (now (bytes .entry)) ⌝ }
+{
+    let access = state.shadow(top, Size::Four, false);
+    match access.load(pages, bytes) {
+        Loaded::Blocked(failure) => Popped::Failed(processor::blame(access, failure)),
+        Loaded::Value(hole) => {
+            if hole == 0 {
+                Popped::Top(state.plus(top, 4))
+            } else {
+                Popped::Failed(processor::fault(Vector::Protection))
+            }
+        }
+    }
+}
+
+// Pops the hole where CF says that there is one.
+fn new_top(state: State, pages: &[u64], bytes: &[u8], top: u64) -> Popped
+    ensures { λ r. ⌜ resultOf r (now (bytes .entry)) ≡ interp (spot (now (pages .entry)) (count (now (bytes .entry)))) (newTop state top) (now (bytes .entry)) ⌝ }
+{
+    if !carry(state) {
+        return Popped::Top(top);
+    }
+    if state.is_long() {
+        return Popped::Failed(processor::fault(Vector::Protection));
+    }
+    pop_hole(state, pages, bytes, top)
+}
+
+// Whether the token names a previous shadow stack.
+fn saved_token(state: State, token: u64) -> bool
+    ensures { λ r. ⌜ r ≡ savedToken state token ⌝ }
+{
+    if token / 2 % 2 != 1 {
+        return false;
+    }
+    if state.is_long() {
+        return true;
+    }
+    token < 0x1_0000_0000
+}
+
+// With the token popped: checks it, and leaves a restore token on the stack that it names.
+fn leave_token(state: State, pages: &[u64], bytes: &mut [u8], token: u64, length: u64) -> Outcome
+    ensures { λ r. ⌜ stepOf r (now (bytes .exit)) ≡ operate (spot (now (pages .entry)) (count (now (bytes .entry)))) (leaveToken token length state) state (now (bytes .entry)) ⌝ }
+{
+    match new_top(state, pages, bytes, state.plus(state.ssp, 8)) {
+        Popped::Failed(fault) => state.fail(fault),
+        Popped::Top(top) => {
+            if !saved_token(state, token) {
+                return state.fail(processor::fault(Vector::Protection));
+            }
+            let old = token - token % 4;
+            let hole = state.shadow(state.minus(old, 4), Size::Four, true);
+            let below = state.shadow(state.minus(old - old % 8, 8), Size::Eight, true);
+            match stores::store_both(pages, bytes, hole, 0, below, old + state.long_bit()) {
+                Stored::NoneStored(fault) => state.fail(fault),
+                Stored::AllStored => {
+                    let moved = state.with_ssp(top);
+                    moved.complete(state.next(length))
+                }
+            }
+        }
+    }
+}
+
+// Pops the previous-SSP token off the stack.
+pub fn execute(state: State, pages: &[u64], bytes: &mut [u8], length: u64) -> Outcome
+    ensures { λ r. ⌜ stepOf r (now (bytes .exit)) ≡ operate (spot (now (pages .entry)) (count (now (bytes .entry)))) (saveprevsspOf length state) state (now (bytes .entry)) ⌝ }
+{
+    if !state.usable() {
+        return state.fail(processor::fault(Vector::InvalidOpcode));
+    }
+    if state.ssp % 8 != 0 {
+        return state.fail(processor::fault(Vector::Protection));
+    }
+    let access = state.shadow(state.ssp, Size::Eight, false);
+    match access.load(pages, bytes) {
+        Loaded::Blocked(failure) => state.fail(processor::blame(access, failure)),
+        Loaded::Value(token) => leave_token(state, pages, bytes, token, length),
+    }
+}

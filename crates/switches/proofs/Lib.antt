@@ -1,3 +1,0 @@
--- The ways through each operation: what the definition gives, by what the code found.
-mod RstorsspWays
-mod SaveprevsspWays

@@ -1,0 +1,138 @@
+-- `wruss::execute` meets its contract: each return cites the way through the definition that leads to it. Assumes nothing.
+use Prim.Native.Nat.{_%_}
+use mathlib.Core.Path.{_≡_, sym, _∙_}
+use mathlib.Core.Bool.{true}
+use lib.ListN.{length as count}
+use borrow.Author.Tests.{not-true, not-false}
+use borrow.Author.Needs.{needs}
+use Rattle.memory.specs.Access.{byteCount, probe}
+use Rattle.pages.specs.Pages.{spot}
+use Rattle.memory.proofs.Laws.{store-done, store-failed}
+use Rattle.processor.proofs.Laws.{some-bytes}
+use Rattle.wruss.specs.Wruss.{recognised, userStore}
+use Rattle.wruss.proofs.WrussWays.{not-recognised, not-kernel, not-aligned, blocked, wrote}
+use Rattle.wruss.proofs.execute.Statement.{statement}
+use Rattle.wruss.proofs.execute.Tie as tie
+
+-- what is known after each test, and after the store
+is-recognised : (c : tie.Else1) → recognised (c .before .before .before .before .args .state) ≡ true
+is-recognised c = sym (c .before .recognised .ensures) ∙ not-false _ (c .if1 .left)
+
+is-aligned : (c : tie.Else3) → c .before .before .before .before .before .before .before .before .args .a % byteCount (c .before .before .before .before .before .before .before .before .args .size) ≡ 0
+is-aligned c = rw (← c .before .bytes .ensures) (c .if3 .left)
+
+tried : (c : tie.After-store) → probe (spot (c .before .before .before .before .before .before .before .before .before .before .before .args .pages .now) (count (c .before .before .before .before .before .before .before .before .before .before .before .args .bytes .now))) (userStore (c .before .before .before .before .before .before .before .before .before .before .before .args .state) (c .before .before .before .before .before .before .before .before .before .before .before .args .a) (c .before .before .before .before .before .before .before .before .before .before .before .args .size)) ≡ c .store .result
+tried c = rw (← c .before .before .user-store .ensures) (sym (c .store .ensures .0))
+
+recognised-requires : tie.Need-recognised-requires
+recognised-requires c κs = search needs
+
+fault-requires : tie.Need-fault-requires
+fault-requires c κs = search needs
+
+fail-requires : tie.Need-fail-requires
+fail-requires c κs = search needs
+
+returns : tie.Need-returns
+returns c =
+    rw (c .fail .ensures, c .before .fault .ensures)
+    (sym (not-recognised _ _ _ _ _ _ _ (sym (c .before .before .before .recognised .ensures) ∙ not-true _ (c .before .before .if1 .taken))))
+
+fault-requires-2 : tie.Need-fault-requires-2
+fault-requires-2 c κs = search needs
+
+fail-requires-2 : tie.Need-fail-requires-2
+fail-requires-2 c κs = search needs
+
+returns-2 : tie.Need-returns-2
+returns-2 c =
+    rw (c .fail2 .ensures, c .before .fault2 .ensures)
+    (sym (not-kernel _ _ _ _ _ _ _ (is-recognised (c .before .before .before .before)) (c .before .before .if2 .taken)))
+
+bytes-requires : tie.Need-bytes-requires
+bytes-requires c κs = search needs
+
+rem-if3 : tie.Need-rem-if3
+rem-if3 c = rw (c .bytes .ensures) (some-bytes (c .before .before .before .before .before .before .before .args .size))
+
+fault-requires-3 : tie.Need-fault-requires-3
+fault-requires-3 c κs = search needs
+
+fail-requires-3 : tie.Need-fail-requires-3
+fail-requires-3 c κs = search needs
+
+returns-3 : tie.Need-returns-3
+returns-3 c =
+    rw (c .fail3 .ensures, c .before .fault3 .ensures)
+    (sym (not-aligned _ _ _ _ _ _ _ (is-recognised (c .before .before .before .before .before .before)) (c .before .before .before .before .if2 .left) (λ e. c .before .before .if3 .taken (rw (c .before .before .before .bytes .ensures) e))))
+
+user-store-requires : tie.Need-user-store-requires
+user-store-requires c κs = search needs
+
+store-requires : tie.Need-store-requires
+store-requires c κs = search needs
+
+enum-known-failure : tie.Need-enum-known-failure
+enum-known-failure c = search needs
+
+blame-requires : tie.Need-blame-requires
+blame-requires c κs = search needs
+
+fail-requires-4 : tie.Need-fail-requires-4
+fail-requires-4 c κs = search needs
+
+enum-told : tie.Need-enum-told
+enum-told c = search needs
+
+next-requires : tie.Need-next-requires
+next-requires c κs = search needs
+
+complete-requires : tie.Need-complete-requires
+complete-requires c κs = search needs
+
+same-length : tie.Need-same-length
+same-length c = search needs
+
+returns-4 : tie.Need-returns-4
+returns-4 c =
+    let failed = tried (c .before .before .before .before .before .before .before) ∙ c .before .before .before .failure .given .1 in
+    rw (c .fail4 .ensures, c .before .blame .ensures, c .before .before .before .before .before .before .before .store .ensures .1, c .before .before .before .before .before .before .before .before .before .user-store .ensures, store-failed _ _ _ _ _ failed)
+    (sym (blocked _ _ _ _ _ _ _ (is-recognised (c .before .before .before .before .before .before .before .before .before .before .before .before .before .before)) (c .before .before .before .before .before .before .before .before .before .before .before .before .if2 .left) (is-aligned (c .before .before .before .before .before .before .before .before .before .before)) _ failed))
+
+same-length-2 : tie.Need-same-length-2
+same-length-2 c = search needs
+
+returns-5 : tie.Need-returns-5
+returns-5 c =
+    let ready = tried (c .before .before .before .before .before .before) ∙ c .before .before .enum-told .given .1 in
+    rw (c .complete .ensures, c .before .next .ensures, c .before .before .before .before .before .before .store .ensures .1, c .before .before .before .before .before .before .before .before .user-store .ensures, store-done _ _ _ _ ready)
+    (sym (wrote _ _ _ _ _ _ _ (is-recognised (c .before .before .before .before .before .before .before .before .before .before .before .before .before)) (c .before .before .before .before .before .before .before .before .before .before .before .if2 .left) (is-aligned (c .before .before .before .before .before .before .before .before .before)) ready))
+
+pub execute-spec : {M : Type 1} → statement M
+execute-spec =
+    tie.close
+    (tie.spec
+    recognised-requires
+    fault-requires
+    fail-requires
+    returns
+    fault-requires-2
+    fail-requires-2
+    returns-2
+    bytes-requires
+    rem-if3
+    fault-requires-3
+    fail-requires-3
+    returns-3
+    user-store-requires
+    store-requires
+    enum-known-failure
+    blame-requires
+    fail-requires-4
+    enum-told
+    next-requires
+    complete-requires
+    same-length
+    returns-4
+    same-length-2
+    returns-5)
