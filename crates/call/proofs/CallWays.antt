@@ -25,7 +25,7 @@ two-stores : (look : Lookup) (bytes : List ℕ) {A : Type 0} (a : Access) (u : �
 unfolding _>>=_
 two-stores look bytes a u t b v p e = rw e
 
-module _ (look : Lookup) (bytes : List ℕ) (target : ℕ) (framed : Bool) (length : ℕ) (s : State) where
+module _ (look : Lookup) (bytes : List ℕ) (target : ℕ) (framed : Bool) (span : ℕ) (s : State) where
   -- SP and SSP after the pushes, and the two pushes
   abbrev pub newSp : ℕ
   newSp = minus s (s .sp) (byteCount (pushed s))
@@ -43,53 +43,53 @@ module _ (look : Lookup) (bytes : List ℕ) (target : ℕ) (framed : Bool) (leng
   abbrev called : Bool → State
   called t = withIp (withSsp (withSp s newSp) (cond t newSsp (s .ssp))) target
 
-  pub outside : inCode s target ≡ false → operate look (call target framed length s) s bytes ≡ stepOf (faulted s gp) bytes
+  pub outside : inCode s target ≡ false → operate look (call target framed span s) s bytes ≡ stepOf (faulted s gp) bytes
   unfolding call
   outside e = faults look _ s bytes gp (halted look bytes (inCode s target) gp _ e)
 
   module _ (inside : inCode s target ≡ true) where
-    pub stack-end : runsPast s newSp ≡ true → operate look (call target framed length s) s bytes ≡ stepOf (faulted s ss) bytes
+    pub stack-end : runsPast s newSp ≡ true → operate look (call target framed span s) s bytes ≡ stepOf (faulted s ss) bytes
     unfolding call
     stack-end e = faults look _ s bytes ss (passed look bytes (inCode s target) gp _ inside ∙ halted look bytes (not (runsPast s newSp)) ss _ (ap not e))
 
     module _ (fits : runsPast s newSp ≡ false) where
       module _ (off : pushesFrame s framed ≡ false) where
-        pub push-blocked : (failure : Failure) → probe look stackPush ≡ Blocked failure → operate look (call target framed length s) s bytes ≡ stepOf (faulted s (blame stackPush failure)) bytes
+        pub push-blocked : (failure : Failure) → probe look stackPush ≡ Blocked failure → operate look (call target framed span s) s bytes ≡ stepOf (faulted s (blame stackPush failure)) bytes
         unfolding call
         push-blocked failure e =
             faults look _ s bytes _
             (passed look bytes (inCode s target) gp _ inside
             ∙ passed look bytes (not (runsPast s newSp)) ss _ (ap not fits)
-            ∙ not-stored look bytes stackPush (next s length) _ failure e)
+            ∙ not-stored look bytes stackPush (next s span) _ failure e)
 
-        pub push-done : probe look stackPush ≡ Ready → operate look (call target framed length s) s bytes ≡ stepOf (completed (withSp s newSp) target) (written look stackPush (next s length) bytes)
+        pub push-done : probe look stackPush ≡ Ready → operate look (call target framed span s) s bytes ≡ stepOf (completed (withSp s newSp) target) (written look stackPush (next s span) bytes)
         unfolding call interp
         push-done e =
             completes look _ s bytes _ _
             (passed look bytes (inCode s target) gp _ inside
             ∙ passed look bytes (not (runsPast s newSp)) ss _ (ap not fits)
-            ∙ stored look bytes stackPush (next s length) _ e
+            ∙ stored look bytes stackPush (next s span) _ e
             ∙ skipped look _ (pushesFrame s framed) _ _ off
-            ∙ ap (λ (t : Bool). ended (called t) (written look stackPush (next s length) bytes)) off)
+            ∙ ap (λ (t : Bool). ended (called t) (written look stackPush (next s span) bytes)) off)
 
       module _ (on : pushesFrame s framed ≡ true) where
-        pub frame-failed : (fault : Fault) → interp look (storeBoth stackPush (next s length) shadowPush (next s length)) bytes ≡ broken fault
-            → operate look (call target framed length s) s bytes ≡ stepOf (faulted s fault) bytes
+        pub frame-failed : (fault : Fault) → interp look (storeBoth stackPush (next s span) shadowPush (next s span)) bytes ≡ broken fault
+            → operate look (call target framed span s) s bytes ≡ stepOf (faulted s fault) bytes
         unfolding call
         frame-failed fault e =
             faults look _ s bytes _
             (passed look bytes (inCode s target) gp _ inside
             ∙ passed look bytes (not (runsPast s newSp)) ss _ (ap not fits)
-            ∙ two-stores look bytes stackPush (next s length) (pushesFrame s framed) shadowPush (next s length) _ on
-            ∙ breaks look _ (storeBoth stackPush (next s length) shadowPush (next s length)) bytes fault e)
+            ∙ two-stores look bytes stackPush (next s span) (pushesFrame s framed) shadowPush (next s span) _ on
+            ∙ breaks look _ (storeBoth stackPush (next s span) shadowPush (next s span)) bytes fault e)
 
-        pub frame-done : (after : List ℕ) → interp look (storeBoth stackPush (next s length) shadowPush (next s length)) bytes ≡ ended tt after
-            → operate look (call target framed length s) s bytes ≡ stepOf (completed (withSsp (withSp s newSp) newSsp) target) after
+        pub frame-done : (after : List ℕ) → interp look (storeBoth stackPush (next s span) shadowPush (next s span)) bytes ≡ ended tt after
+            → operate look (call target framed span s) s bytes ≡ stepOf (completed (withSsp (withSp s newSp) newSsp) target) after
         unfolding call interp
         frame-done after e =
             completes look _ s bytes _ after
             (passed look bytes (inCode s target) gp _ inside
             ∙ passed look bytes (not (runsPast s newSp)) ss _ (ap not fits)
-            ∙ two-stores look bytes stackPush (next s length) (pushesFrame s framed) shadowPush (next s length) _ on
-            ∙ continues look _ (storeBoth stackPush (next s length) shadowPush (next s length)) bytes tt after e
+            ∙ two-stores look bytes stackPush (next s span) (pushesFrame s framed) shadowPush (next s span) _ on
+            ∙ continues look _ (storeBoth stackPush (next s span) shadowPush (next s span)) bytes tt after e
             ∙ ap (λ (t : Bool). ended (called t) after) on)

@@ -28,7 +28,7 @@ moved s from (negsuc d) = minus s from (d + 1)
 
 -- the target of a relative call
 unfoldable pub relative : State → ℕ → ℕ → ℕ
-relative s a length = moved s (next s length) (displacement a)
+relative s a span = moved s (next s span) (displacement a)
 
 -- in mode 2 the target must be canonical, otherwise within the code limit
 unfoldable pub inCode : State → ℕ → Bool
@@ -55,13 +55,13 @@ pushesFrame s framed = enabled s && framed
 -- The call: Next on the ordinary stack and, where the shadow stack is pushed on, there too; then the target. `framed` says whether the
 -- call's form makes a frame: that of a relative call with displacement 0 does not, every other does.
 unfoldable pub call : ℕ → Bool → ℕ → State → Prog State
-call target framed length s =
+call target framed span s =
     let size : Size = pushed s in
     let sp : ℕ = minus s (s .sp) (byteCount size) in
     let ssp : ℕ = minus s (s .ssp) (byteCount size) in
     do
       unless (inCode s target) gp  -- #GP(0)
       unless (not (runsPast s sp)) ss  -- #SS(0)
-      store (ordinary s sp size true) (next s length)
-      onlyIf (pushesFrame s framed) (store (shadow s ssp size true) (next s length))
+      store (ordinary s sp size true) (next s span)
+      onlyIf (pushesFrame s framed) (store (shadow s ssp size true) (next s span))
       done (withIp (withSsp (withSp s sp) (cond (pushesFrame s framed) ssp (s .ssp))) target)

@@ -1,7 +1,6 @@
 // Near CALL: the target of a relative call, and the call itself.
 ghost use mathlib.Core.Path.{_≡_};
-ghost use lib.ListN.{length as count};
-ghost use Rattle.pages.specs.Pages.{spot};
+ghost use Rattle.memory.specs.Access.{lookupOf};
 ghost use Rattle.processor.specs.Prog.{operate};
 ghost use Rattle.processor.specs.Outcomes.{stepOf};
 ghost use Rattle.call.specs.Call.{displacement as displacementOf, moved as movedOf, relative as relativeOf, inCode, pushed as pushedOf, runsPast, displaced as displacedOf, pushesFrame, call};
@@ -36,10 +35,10 @@ fn moved(state: State, from: u64, by: i64) -> u64
 }
 
 // The target of a relative call.
-pub fn relative(state: State, a: u64, length: u64) -> u64
-    ensures { λ r. ⌜ r ≡ relativeOf state a length ⌝ }
+pub fn relative(state: State, a: u64, span: u64) -> u64
+    ensures { λ r. ⌜ r ≡ relativeOf state a span ⌝ }
 {
-    moved(state, state.next(length), displacement(a))
+    moved(state, state.next(span), displacement(a))
 }
 
 // Whether a call or a return may go to the target.
@@ -96,9 +95,9 @@ pub fn execute(
     bytes: &mut [u8],
     target: u64,
     framed: bool,
-    length: u64,
+    span: u64,
 ) -> Outcome
-    ensures { λ r. ⌜ stepOf r (now (bytes .exit)) ≡ operate (spot (now (pages .entry)) (count (now (bytes .entry)))) (call target framed length state) state (now (bytes .entry)) ⌝ }
+    ensures { λ r. ⌜ stepOf r (now (bytes .exit)) ≡ operate (lookupOf (now (pages .entry)) (now (bytes .entry))) (call target framed span state) state (now (bytes .entry)) ⌝ }
 {
     if !in_code(state, target) {
         return state.fail(processor::fault(Vector::Protection));
@@ -108,7 +107,7 @@ pub fn execute(
     if runs_past(state, sp) {
         return state.fail(processor::fault(Vector::Stack));
     }
-    let next = state.next(length);
+    let next = state.next(span);
     let stack = state.ordinary(sp, size, true);
     let called = state.with_sp(sp);
     if !pushes_frame(state, framed) {

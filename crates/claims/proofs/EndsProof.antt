@@ -3,7 +3,7 @@ use Prim.Native.Nat.{ℕ, _/_, _≤_, _<_}
 use mathlib.Core.List.{List}
 use mathlib.Core.Path.{_≡_, refl}
 use lib.ListN.{length}
-use Rattle.pages.specs.Pages.{spot}
+use Rattle.memory.specs.Access.{lookupOf}
 use Rattle.processor.specs.Prog.{Step}
 use Rattle.processor.specs.State.{inRange}
 use Rattle.answers.specs.declared.answer.Answer.{Answer}
@@ -24,7 +24,7 @@ refused-before set pages s bytes words refusal e = rw e
 
 pub count-tied : CountTied
 unfolding run
-count-tied set pages s bytes words e = rw e (counted set (spot pages (length bytes)) (instructionAt words) s bytes (length words / 4))
+count-tied set pages s bytes words e = rw e (counted set (lookupOf pages bytes) (instructionAt words) s bytes (length words / 4))
 
 module _ (set : InstructionSet) (pages : List ℕ) (s : State) (bytes words : List ℕ) where
   abbrev tested : Tested
@@ -35,7 +35,7 @@ module _ (set : InstructionSet) (pages : List ℕ) (s : State) (bytes words : Li
   unfolding run
   passed e = go tested refl e
     where
-      go : (t : Tested) → tested ≡ t → runIf t (runFrom set (spot pages (length bytes)) (instructionAt words) 0 (length words / 4) s bytes) s bytes .answer ≡ Completed → tested ≡ Passed
+      go : (t : Tested) → tested ≡ t → runIf t (runFrom set (lookupOf pages bytes) (instructionAt words) 0 (length words / 4) s bytes) s bytes .answer ≡ Completed → tested ≡ Passed
       go Passed h q = h
       go (Failed refusal) h q = absurd (refused-stops refusal q)
 
@@ -47,7 +47,7 @@ module _ (set : InstructionSet) (pages : List ℕ) (s : State) (bytes words : Li
 
   completes-all : tested ≡ Passed → AllComplete set pages s bytes words → run set pages s bytes words .answer ≡ Completed
   completes-all e all =
-      ends-at-end set (spot pages (length bytes)) (instructionAt words) s bytes (length words / 4) (run set pages s bytes words) (count-tied set pages s bytes words e) (length words / 4) all refl .1
+      ends-at-end set (lookupOf pages bytes) (instructionAt words) s bytes (length words / 4) (run set pages s bytes words) (count-tied set pages s bytes words e) (length words / 4) all refl .1
 
 pub completed-exactly : CompletedExactly
 completed-exactly set pages s bytes words = (λ e. (passed set pages s bytes words e, all-complete set pages s bytes words e), completes-all set pages s bytes words)
@@ -78,7 +78,7 @@ unfolding step run runFrom instructionAt
 step-is-run set pages i s bytes = go (check pages (length bytes) (inRange s) 4)
   where
     now : Step
-    now = perform set (spot pages (length bytes)) i s bytes
+    now = perform set (lookupOf pages bytes) i s bytes
 
     go : (t : Tested)
         → let r : Run = runIf t (onward (now .answer) (record { count = 1; answer = Completed; state = now .state; bytes = now .bytes }) (endsAt 0 now)) s bytes in

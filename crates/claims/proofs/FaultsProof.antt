@@ -11,8 +11,8 @@ use mathlib.Core.Path.{_≡_, refl, sym, _∙_, ap, subst}
 use native.Mathlib.Omega.{arith}
 use lib.ListN.{length}
 use borrow.Author.Tests.{ne-eqb}
-use Rattle.memory.specs.Access.{probe, value, written}
-use Rattle.pages.specs.Pages.{Lookup, spot}
+use Rattle.memory.specs.Access.{lookupOf, probe, value, written}
+use Rattle.pages.specs.Pages.{Lookup}
 use Rattle.memory.specs.declared.access.Access.{Access}
 use Rattle.memory.specs.declared.access.Failure.{Failure}
 use Rattle.memory.specs.declared.access.Failure.the-variants.{NotCanonical, NotListed, WrongKind}
@@ -84,7 +84,7 @@ unfolding after
 run-faults P of-access set stops pages s bytes words fault e = go (check pages (length bytes) (inRange s) (length words)) refl
   where
     look : Lookup
-    look = spot pages (length bytes)
+    look = lookupOf pages bytes
 
     r : Run
     r = run set pages s bytes words

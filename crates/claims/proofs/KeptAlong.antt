@@ -4,7 +4,8 @@ use mathlib.Core.List.{List}
 use mathlib.Core.Path.{_≡_, refl, sym, subst}
 use native.Mathlib.Omega.{arith}
 use lib.ListN.{length}
-use Rattle.pages.specs.Pages.{Lookup, spot}
+use Rattle.memory.specs.Access.{lookupOf}
+use Rattle.pages.specs.Pages.{Lookup}
 use Rattle.processor.specs.Prog.{Step}
 use Rattle.processor.specs.State.{inRange}
 use Rattle.answers.specs.declared.answer.Answer.the-variants.{Completed}
@@ -36,11 +37,11 @@ module _ (set : InstructionSet) (look : Lookup) (listed : ℕ → Instruction) (
   KeptBy r = Keep (r .count) → P (r .count) (r .state)
 
 pub run-keeps : (set : InstructionSet) (pages : List ℕ) (s : State) (bytes words : List ℕ) (P : ℕ → State → Type 0) → P 0 s
-    → KeptBy set (spot pages (length bytes)) (instructionAt words) s bytes P (run set pages s bytes words)
+    → KeptBy set (lookupOf pages bytes) (instructionAt words) s bytes P (run set pages s bytes words)
 run-keeps set pages s bytes words P start = go (check pages (length bytes) (inRange s) (length words)) refl
   where
     look : Lookup
-    look = spot pages (length bytes)
+    look = lookupOf pages bytes
 
     r : Run
     r = run set pages s bytes words

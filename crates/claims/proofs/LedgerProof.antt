@@ -4,8 +4,8 @@ use mathlib.Core.Bool.{cond}
 use mathlib.Core.Path.{_≡_, refl, _∙_, ap, subst}
 use lib.Dec.{eqb}
 use lib.ListN.{length}
+use Rattle.memory.specs.Access.{lookupOf}
 use Rattle.pages.specs.Address.{wrapped}
-use Rattle.pages.specs.Pages.{spot}
 use Rattle.pages.specs.declared.address.Width.{Width}
 use Rattle.pages.specs.declared.address.Width.the-variants.{Bits32, Bits64}
 use Rattle.processor.specs.State.{widthOf}
@@ -50,7 +50,7 @@ pub ledger : Ledger
 unfolding after
 ledger pages s bytes words other =
     let listed : ℕ → Instruction = instructionAt words in
-    let opening : ℕ → State = λ j. after codes (spot pages (length bytes)) listed j s bytes .state in
+    let opening : ℕ → State = λ j. after codes (lookupOf pages bytes) listed j s bytes .state in
     run-keeps codes pages s bytes words (Balanced listed opening s) (at-start listed opening s)
-    (λ j counted before done. one-more listed opening s j _ before (completion (spot pages (length bytes)) (listed j) (opening j) _ done) (other j counted))
+    (λ j counted before done. one-more listed opening s j _ before (completion (lookupOf pages bytes) (listed j) (opening j) _ done) (other j counted))
     .even

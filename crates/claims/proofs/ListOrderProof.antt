@@ -4,14 +4,14 @@ use mathlib.Core.Bool.{Bool, true, false, cond, true≢false}
 use mathlib.Core.List.{List}
 use mathlib.Core.Path.{_≡_, refl, sym, _∙_}
 use lib.ListN.{length}
-use Rattle.memory.specs.Access.{probe, value, written}
+use Rattle.memory.specs.Access.{lookupOf, probe, value, written}
 use Rattle.memory.specs.Extends.{Places, HoldsPages}
-use Rattle.pages.specs.Pages.{Lookup, listing, spot}
+use Rattle.pages.specs.Pages.{Lookup, listing}
 use Rattle.memory.specs.declared.access.Access.{Access}
 use Rattle.memory.specs.declared.access.Reach.{Reach}
 use Rattle.memory.specs.declared.access.Reach.the-variants.{Ready, Blocked}
 use Rattle.pages.specs.declared.pages.Listing.the-variants.{Valid}
-use Rattle.memory.proofs.Laws.{spot-places, same-value, alike-probe, order-free as same-cells}
+use Rattle.memory.proofs.Laws.{lookup-places, same-value, alike-probe, order-free as same-cells}
 use Rattle.processor.specs.Prog.{Prog, done, stop, fetch, put, Result, onReach, interp, settle, operate}
 use Rattle.processor.specs.State.{inRange}
 use Rattle.answers.specs.declared.answer.Answer.{Answer}
@@ -80,10 +80,10 @@ without-fault pages₁ pages₂ lent₂ r₁ r₂ alike = record { count = alike
 module _ (pages₁ lent₁ pages₂ lent₂ : List ℕ) (valid₁ : listing pages₁ (length lent₁) ≡ Valid) (valid₂ : listing pages₂ (length lent₂) ≡ Valid)
     (there : HoldsPages pages₁ lent₁ pages₂ lent₂) (back : HoldsPages pages₂ lent₂ pages₁ lent₁) (set : InstructionSet) (s : State) (words : List ℕ) where
   abbrev look₁ : Lookup
-  look₁ = spot pages₁ (length lent₁)
+  look₁ = lookupOf pages₁ lent₁
 
   abbrev look₂ : Lookup
-  look₂ = spot pages₂ (length lent₂)
+  look₂ = lookupOf pages₂ lent₂
 
   -- What trying finds depends on where addresses lead, which no store alters: it is enough that the lent bytes are alike.
   tried : (a : Access) → probe look₁ a ≡ probe look₂ a
@@ -96,7 +96,7 @@ module _ (pages₁ lent₁ pages₂ lent₂ : List ℕ) (valid₁ : listing page
     next-answer =
         let now = same-after pages₁ lent₁ pages₂ lent₂ valid₁ valid₂ there set s words (r₁ .count) (whole pages₁ lent₁ pages₂ lent₂ valid₁ valid₂ there set s words r₁ r₂ c₁ c₂) in
         rw (now .state)
-        (same-answer look₁ look₂ lent₁ lent₂ (spot-places pages₁ (length lent₁)) (spot-places pages₂ (length lent₂)) tried set (instructionAt words (r₁ .count)) _ _ _ (now .memory))
+        (same-answer look₁ look₂ lent₁ lent₂ (lookup-places pages₁ (length lent₁)) (lookup-places pages₂ (length lent₂)) tried set (instructionAt words (r₁ .count)) _ _ _ (now .memory))
 
     -- the first ends with a page fault: the second ends there too, with the same one
     at-fault : isPageFault (r₁ .answer) ≡ true → SameEnd pages₁ pages₂ r₁ r₂
@@ -131,10 +131,10 @@ order-free set s words pages₁ bytes₁ pages₂ bytes₂ valid₁ valid₂ the
     by : (t : Tested) → check pages₁ (length bytes₁) (inRange s) (length words) ≡ t → SameEnd pages₁ pages₂ r₁ r₂
     by Passed e = ends (isPageFault (r₁ .answer)) refl
       where
-        c₁ : Counted set (spot pages₁ (length bytes₁)) (instructionAt words) (length words / 4) s bytes₁ r₁
+        c₁ : Counted set (lookupOf pages₁ bytes₁) (instructionAt words) (length words / 4) s bytes₁ r₁
         c₁ = count-tied set pages₁ s bytes₁ words e
 
-        c₂ : Counted set (spot pages₂ (length bytes₂)) (instructionAt words) (length words / 4) s bytes₂ r₂
+        c₂ : Counted set (lookupOf pages₂ bytes₂) (instructionAt words) (length words / 4) s bytes₂ r₂
         c₂ = count-tied set pages₂ s bytes₂ words (same-test pages₁ bytes₁ pages₂ bytes₂ valid₁ valid₂ there (inRange s) (length words) ∙ e)
 
         ends : (page : Bool) → isPageFault (r₁ .answer) ≡ page → SameEnd pages₁ pages₂ r₁ r₂

@@ -6,9 +6,9 @@ use mathlib.Core.Path.{_≡_, refl, sym, _∙_}
 use native.Mathlib.Omega.{arith}
 use lib.ListN.{length}
 use Rattle.memory.specs.Extends.{HoldsPages}
-use Rattle.pages.specs.Pages.{Lookup, listing, spot}
+use Rattle.pages.specs.Pages.{Lookup, listing}
 use Rattle.pages.specs.declared.pages.Listing.the-variants.{Valid}
-use Rattle.memory.proofs.Laws.{spot-places, pages-extend, extends-pages}
+use Rattle.memory.proofs.Laws.{lookup-places, pages-extend, extends-pages}
 use Rattle.processor.specs.Prog.{Step}
 use Rattle.processor.specs.State.{inRange}
 use Rattle.answers.specs.declared.answer.Answer.{Answer}
@@ -33,10 +33,10 @@ no-fault a e = rw e
 -- `lent₁` and `lent₂` are the bytes that the two runs begin with
 module _ (pages₁ lent₁ pages₂ lent₂ : List ℕ) (valid₁ : listing pages₁ (length lent₁) ≡ Valid) (valid₂ : listing pages₂ (length lent₂) ≡ Valid) (holds : HoldsPages pages₁ lent₁ pages₂ lent₂) where
   abbrev look₁ : Lookup
-  look₁ = spot pages₁ (length lent₁)
+  look₁ = lookupOf pages₁ lent₁
 
   abbrev look₂ : Lookup
-  look₂ = spot pages₂ (length lent₂)
+  look₂ = lookupOf pages₂ lent₂
 
   -- from memories to page lists
   same-memory : (state₁ : State) (bytes₁ : List ℕ) (state₂ : State) (bytes₂ : List ℕ) → state₂ ≡ state₁ → Beside look₁ look₂ lent₁ lent₂ bytes₁ bytes₂
@@ -60,7 +60,7 @@ module _ (pages₁ lent₁ pages₂ lent₂ : List ℕ) (valid₁ : listing page
     -- up to a page fault of the first
     pub same-after : (k : ℕ) → ((j : ℕ) → j < k → isPageFault (after₁ (suc j) .answer) ≡ false) → StepsAlike look₁ look₂ lent₁ lent₂ (after₁ k) (after₂ k)
     same-after k whole =
-        alike look₁ look₂ lent₁ lent₂ (spot-places pages₁ (length lent₁)) (spot-places pages₂ (length lent₂)) set (instructionAt words) s
+        alike look₁ look₂ lent₁ lent₂ (lookup-places pages₁ (length lent₁)) (lookup-places pages₂ (length lent₂)) set (instructionAt words) s
         record { extends = pages-extend pages₁ lent₁ pages₂ lent₂ valid₂ holds; kept₁ = refl; kept₂ = refl } k whole
 
     -- what is claimed, of any two runs

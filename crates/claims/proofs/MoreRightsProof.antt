@@ -6,7 +6,8 @@ use mathlib.Core.List.{List}
 use mathlib.Core.Path.{_≡_, refl, sym, _∙_, ap}
 use native.Mathlib.Omega.{arith}
 use lib.ListN.{length}
-use Rattle.pages.specs.Pages.{Lookup, spot}
+use Rattle.memory.specs.Access.{lookupOf}
+use Rattle.pages.specs.Pages.{Lookup}
 use Rattle.processor.specs.State.{inRange}
 use Rattle.processor.specs.Prog.{Step}
 use Rattle.answers.specs.declared.answer.Answer.{Answer}
@@ -113,7 +114,7 @@ unfolding run after
 more-rights set user supervisor s words pages bytes = rw (range-granted user supervisor s) (go (check pages (length bytes) (inRange s) (length words)))
   where
     look : Lookup
-    look = spot pages (length bytes)
+    look = lookupOf pages bytes
 
     -- the run from a state, by what is tested before any step
     runOf : Tested → State → Run

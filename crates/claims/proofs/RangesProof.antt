@@ -2,7 +2,7 @@
 use mathlib.Core.Bool.{true}
 use mathlib.Core.Path.{_≡_}
 use lib.ListN.{length}
-use Rattle.pages.specs.Pages.{spot}
+use Rattle.memory.specs.Access.{lookupOf}
 use Rattle.processor.specs.State.{inRange}
 use Rattle.instructions.specs.Instruction.{instructionAt}
 use Rattle.perform.specs.Codes.{codes}
@@ -19,4 +19,4 @@ pub run-stays-in-range : RunStaysInRange
 unfolding after
 run-stays-in-range pages s bytes words good =
     run-keeps codes pages s bytes words (λ j t. inRange t ≡ true) good
-    (λ j counted before done. stays-in-range (spot pages (length bytes)) (instructionAt words j) _ _ before done)
+    (λ j counted before done. stays-in-range (lookupOf pages bytes) (instructionAt words j) _ _ before done)

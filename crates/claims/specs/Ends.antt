@@ -3,7 +3,8 @@ use Prim.Native.Nat.{ℕ, suc, _/_, _≤_, _<_}
 use mathlib.Core.Path.{_≡_}
 use mathlib.Core.List.{List, [], _∷_}
 use lib.ListN.{length}
-use Rattle.pages.specs.Pages.{Lookup, spot}
+use Rattle.memory.specs.Access.{lookupOf}
+use Rattle.pages.specs.Pages.{Lookup}
 use Rattle.processor.specs.State.{inRange}
 use Rattle.answers.specs.declared.answer.Answer.{Answer}
 use Rattle.answers.specs.declared.answer.Answer.the-variants.{Completed, Refused, Faulted}
@@ -44,12 +45,12 @@ pub record Counted (set : InstructionSet) (look : Lookup) (listed : ℕ → Inst
 abbrev pub CountTied : Type 0
 CountTied = (set : InstructionSet) (pages : List ℕ) (s : State) (bytes words : List ℕ)
     → check pages (length bytes) (inRange s) (length words) ≡ Passed
-    → Counted set (spot pages (length bytes)) (instructionAt words) (length words / 4) s bytes (run set pages s bytes words)
+    → Counted set (lookupOf pages bytes) (instructionAt words) (length words / 4) s bytes (run set pages s bytes words)
 
 -- every instruction of a list completes
 abbrev pub AllComplete : InstructionSet → List ℕ → State → List ℕ → List ℕ → Type 0
 AllComplete set pages s bytes words =
-    (j : ℕ) → j < length words / 4 → after set (spot pages (length bytes)) (instructionAt words) (suc j) s bytes .answer ≡ Completed
+    (j : ℕ) → j < length words / 4 → after set (lookupOf pages bytes) (instructionAt words) (suc j) s bytes .answer ≡ Completed
 
 -- the answer is 0 exactly when no refusal is given before any step and every instruction listed has completed
 abbrev pub CompletedExactly : Type 0

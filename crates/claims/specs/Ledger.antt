@@ -5,9 +5,8 @@ use mathlib.Core.Bool.{Bool, not, cond, _&&_}
 use mathlib.Core.List.{List}
 use lib.ListN.{length}
 use lib.Dec.{eqb}
-use Rattle.memory.specs.Access.{byteCount}
+use Rattle.memory.specs.Access.{lookupOf, byteCount}
 use Rattle.pages.specs.Address.{wrapped}
-use Rattle.pages.specs.Pages.{spot}
 use Rattle.processor.specs.State.{enabled, widthOf}
 use Rattle.processor.specs.declared.state.State.{State}
 use Rattle.saveprevssp.specs.Saveprevssp.{carry}
@@ -50,6 +49,6 @@ abbrev pub Ledger : Type 0
 Ledger = (pages : List ℕ) (s : State) (bytes words : List ℕ)
     → let r : Run = run codes pages s bytes words in
     let listed : ℕ → Instruction = instructionAt words in
-    let opening : ℕ → State = λ j. after codes (spot pages (length bytes)) listed j s bytes .state in
+    let opening : ℕ → State = λ j. after codes (lookupOf pages bytes) listed j s bytes .state in
     ((j : ℕ) → j < r .count → listed j .code ≡ 3 → ⊥)
     → wrapped (widthOf s) (s .ssp + sumOf popped listed opening (r .count)) ≡ wrapped (widthOf s) (r .state .ssp + sumOf pushedBy listed opening (r .count))

@@ -5,7 +5,8 @@ use mathlib.Core.Bool.{Bool, true, false}
 use mathlib.Core.List.{List}
 use lib.ListN.{length}
 use lib.Dec.{eqb}
-use Rattle.pages.specs.Pages.{listing, spot}
+use Rattle.memory.specs.Access.{lookupOf}
+use Rattle.pages.specs.Pages.{listing}
 use Rattle.memory.specs.Extends.{HoldsPages, Untouched}
 use Rattle.pages.specs.declared.pages.Listing.the-variants.{Valid}
 use Rattle.answers.specs.Answer.{reportOf}
@@ -46,4 +47,4 @@ MorePages = (set : InstructionSet) (s : State) (words pages₁ bytes₁ pages₂
     → let r₁ : Run = run set pages₁ s bytes₁ words in
     let r₂ : Run = run set pages₂ s bytes₂ words in
     (isPageFault (r₁ .answer) ≡ false → EndsAlike pages₁ pages₂ bytes₂ r₁ r₂)
-    × (isPageFault (r₁ .answer) ≡ true → GoesAsFar pages₁ pages₂ bytes₂ r₁ r₂ (after set (spot pages₂ (length bytes₂)) (instructionAt words) (r₁ .count) s bytes₂))
+    × (isPageFault (r₁ .answer) ≡ true → GoesAsFar pages₁ pages₂ bytes₂ r₁ r₂ (after set (lookupOf pages₂ bytes₂) (instructionAt words) (r₁ .count) s bytes₂))

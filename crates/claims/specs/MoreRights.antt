@@ -5,7 +5,7 @@ use mathlib.Core.Bool.{Bool, true, false, not, cond, _&&_}
 use mathlib.Core.List.{List}
 use lib.ListN.{length}
 use lib.Dec.{eqb}
-use Rattle.pages.specs.Pages.{spot}
+use Rattle.memory.specs.Access.{lookupOf}
 use Rattle.answers.specs.Answer.{reportOf}
 use Rattle.processor.specs.Prog.{Step}
 use Rattle.processor.specs.State.{usable, permitted}
@@ -55,4 +55,4 @@ MoreRights = (set : InstructionSet) (user supervisor : Bool) (s : State) (words 
     let r₂ : Run = run set pages (granted user supervisor s) bytes words in
     (notPermitted r₁ (instructionAt words (r₁ .count)) ≡ false → AlikeButBits user supervisor r₁ r₂)
     × (notPermitted r₁ (instructionAt words (r₁ .count)) ≡ true
-    → AlikeBefore user supervisor r₁ r₂ (after set (spot pages (length bytes)) (instructionAt words) (r₁ .count) (granted user supervisor s) bytes))
+    → AlikeBefore user supervisor r₁ r₂ (after set (lookupOf pages bytes) (instructionAt words) (r₁ .count) (granted user supervisor s) bytes))

@@ -39,7 +39,7 @@ SameNextLine = (look₁ look₂ : Lookup) → SameOrdinary look₁ look₂
     let r₂ : Step = perform codes look₂ i (withShadow s cet ssp) bytes₂ in
     (r₂ .answer ≡ r₁ .answer) × (r₂ .state ≡ withShadow (r₁ .state) cet ssp)
 
--- And no byte changes but on ordinary pages; a page list leads no two addresses to one byte (`Places`, shown by `spot-places`).
+-- And no byte changes but on ordinary pages; a page list leads no two addresses to one byte (`Places`, shown by `lookup-places`).
 abbrev pub NextLineUntouched : Type 0
 NextLineUntouched = (look : Lookup) (i : Instruction) (s : State) (bytes : List ℕ) → Places look (length bytes) → i .code ≡ 7 → i .a ≡ 0
     → (address : ℕ) → isOrdinary (look address) ≡ false → cell look (perform codes look i s bytes .bytes) address ≡ cell look bytes address

@@ -3,7 +3,7 @@
 ghost use Prim.Native.Nat.{_≤_};
 ghost use mathlib.Core.Bool.{false};
 ghost use mathlib.Core.Path.{_≡_};
-ghost use lib.ListN.{length as count};
+ghost use lib.ListN.{length};
 ghost use Rattle.driftpocket.specs.Crossing.{stateWords, reportWords, over, numberOf as numberFor, testedAs, answered, crossed};
 ghost use Rattle.answers.specs.Answer.{reportOf};
 ghost use Rattle.replay.specs.Run.{check as checkOf};
@@ -22,7 +22,7 @@ const TOO_SHORT: u64 = 8;
 
 // Copies words over the first of a buffer.
 fn copy(words: &[u64], buffer: &mut [u64])
-    requires { ⌜ count (now words) ≤ count (now buffer) ⌝ }
+    requires { ⌜ length (now words) ≤ length (now buffer) ⌝ }
     ensures { λ _. ⌜ now (buffer .exit) ≡ over (now (words .entry)) (now (buffer .entry)) ⌝ }
 {
     let mut i = 0;
@@ -33,7 +33,7 @@ fn copy(words: &[u64], buffer: &mut [u64])
 }
 
 fn write_state(state: State, buffer: &mut [u64])
-    requires { ⌜ 10 ≤ count (now buffer) ⌝ }
+    requires { ⌜ 10 ≤ length (now buffer) ⌝ }
     ensures { λ _. ⌜ now (buffer .exit) ≡ over (stateWords state) (now (buffer .entry)) ⌝ }
 {
     let words = [
@@ -52,7 +52,7 @@ fn write_state(state: State, buffer: &mut [u64])
 }
 
 fn write_report(done: usize, answer: Answer, buffer: &mut [u64])
-    requires { ⌜ 5 ≤ count (now buffer) ⌝ }
+    requires { ⌜ 5 ≤ length (now buffer) ⌝ }
     ensures { λ _. ⌜ now (buffer .exit) ≡ over (reportWords done (reportOf answer)) (now (buffer .entry)) ⌝ }
 {
     let report = answer.report();

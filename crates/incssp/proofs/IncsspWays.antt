@@ -21,21 +21,21 @@ use Rattle.processor.specs.declared.state.State.{State}
 use Rattle.processor.proofs.Laws.{passed, halted, entered, skipped, touched, not-touched, completes, faults}
 use Rattle.incssp.specs.Incssp.{incssp}
 
-module _ (look : Lookup) (bytes : List ℕ) (size : Size) (b length : ℕ) (s : State) where
-  pub not-usable : usable s ≡ false → operate look (incssp size b length s) s bytes ≡ stepOf (faulted s ud) bytes
+module _ (look : Lookup) (bytes : List ℕ) (size : Size) (b span : ℕ) (s : State) where
+  pub not-usable : usable s ≡ false → operate look (incssp size b span s) s bytes ≡ stepOf (faulted s ud) bytes
   unfolding incssp
   not-usable u = faults look _ s bytes ud (halted look bytes (usable s) ud _ u)
 
   module _ (u : usable s ≡ true) where
     pub first-blocked : (failure : Failure) → loadAt look bytes (shadow s (s .ssp) size false) ≡ Unloaded failure
-        → operate look (incssp size b length s) s bytes ≡ stepOf (faulted s (blame (shadow s (s .ssp) size false) failure)) bytes
+        → operate look (incssp size b span s) s bytes ≡ stepOf (faulted s (blame (shadow s (s .ssp) size false) failure)) bytes
     unfolding incssp
     first-blocked failure e =
         faults look _ s bytes _ (passed look bytes (usable s) ud _ u ∙ not-touched look bytes (shadow s (s .ssp) size false) _ failure e)
 
     module _ (v : ℕ) (first : loadAt look bytes (shadow s (s .ssp) size false) ≡ Value v) where
       pub none : b % 256 ≡ 0
-          → operate look (incssp size b length s) s bytes ≡ stepOf (completed (withSsp s (plus s (s .ssp) (byteCount size * (b % 256)))) (next s length)) bytes
+          → operate look (incssp size b span s) s bytes ≡ stepOf (completed (withSsp s (plus s (s .ssp) (byteCount size * (b % 256)))) (next s span)) bytes
       unfolding incssp interp
       none e =
           completes look _ s bytes _ bytes
@@ -43,7 +43,7 @@ module _ (look : Lookup) (bytes : List ℕ) (size : Size) (b length : ℕ) (s : 
 
       module _ (some : b % 256 ≡ 0 → ⊥) where
         pub last-blocked : (failure : Failure) → loadAt look bytes (shadow s (plus s (s .ssp) (byteCount size * (b % 256 - 1))) size false) ≡ Unloaded failure
-            → operate look (incssp size b length s) s bytes ≡ stepOf (faulted s (blame (shadow s (plus s (s .ssp) (byteCount size * (b % 256 - 1))) size false) failure)) bytes
+            → operate look (incssp size b span s) s bytes ≡ stepOf (faulted s (blame (shadow s (plus s (s .ssp) (byteCount size * (b % 256 - 1))) size false) failure)) bytes
         unfolding incssp
         last-blocked failure e =
             faults look _ s bytes _
@@ -53,7 +53,7 @@ module _ (look : Lookup) (bytes : List ℕ) (size : Size) (b length : ℕ) (s : 
             ∙ not-touched look bytes (shadow s (plus s (s .ssp) (byteCount size * (b % 256 - 1))) size false) _ failure e)
 
         pub popped : (w : ℕ) → loadAt look bytes (shadow s (plus s (s .ssp) (byteCount size * (b % 256 - 1))) size false) ≡ Value w
-            → operate look (incssp size b length s) s bytes ≡ stepOf (completed (withSsp s (plus s (s .ssp) (byteCount size * (b % 256)))) (next s length)) bytes
+            → operate look (incssp size b span s) s bytes ≡ stepOf (completed (withSsp s (plus s (s .ssp) (byteCount size * (b % 256)))) (next s span)) bytes
         unfolding incssp interp
         popped w e =
             completes look _ s bytes _ bytes

@@ -1,7 +1,6 @@
 // INCSSPD and INCSSPQ: pop elements off the shadow stack.
 ghost use mathlib.Core.Path.{_≡_};
-ghost use lib.ListN.{length as count};
-ghost use Rattle.pages.specs.Pages.{spot};
+ghost use Rattle.memory.specs.Access.{lookupOf};
 ghost use Rattle.processor.specs.Prog.{operate};
 ghost use Rattle.processor.specs.Outcomes.{stepOf};
 ghost use Rattle.incssp.specs.Incssp.{incssp as incsspOf};
@@ -18,9 +17,9 @@ pub fn execute(
     bytes: &[u8],
     size: Size,
     b: u64,
-    length: u64,
+    span: u64,
 ) -> Outcome
-    ensures { λ r. ⌜ stepOf r (now (bytes .entry)) ≡ operate (spot (now (pages .entry)) (count (now (bytes .entry)))) (incsspOf size b length state) state (now (bytes .entry)) ⌝ }
+    ensures { λ r. ⌜ stepOf r (now (bytes .entry)) ≡ operate (lookupOf (now (pages .entry)) (now (bytes .entry))) (incsspOf size b span state) state (now (bytes .entry)) ⌝ }
 {
     if !state.usable() {
         return state.fail(processor::fault(Vector::InvalidOpcode));
@@ -33,12 +32,12 @@ pub fn execute(
         Loaded::Blocked(failure) => state.fail(processor::blame(first, failure)),
         Loaded::Value(_) => {
             if range == 0 {
-                return moved.complete(state.next(length));
+                return moved.complete(state.next(span));
             }
             let last = state.shadow(state.plus(state.ssp, n * (range - 1)), size, false);
             match last.load(pages, bytes) {
                 Loaded::Blocked(failure) => state.fail(processor::blame(last, failure)),
-                Loaded::Value(_) => moved.complete(state.next(length)),
+                Loaded::Value(_) => moved.complete(state.next(span)),
             }
         }
     }

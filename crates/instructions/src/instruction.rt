@@ -1,8 +1,6 @@
 // An instruction, as four words give it, and the form that it must have.
-ghost use Prim.Native.Nat.{_+_, _*_, _<_};
 ghost use mathlib.Core.Path.{_≡_};
-ghost use lib.ListN.{length as count};
-ghost use Rattle.instructions.specs.Instruction.{instructionAt, oneOf, isIncssp, isWrss, isCall, isRet, isWruss, isQuad, sizeOf, lengthFits, wordsFitFrom9, wordsFit, narrow as narrowOf, modeFits, wellFormed};
+ghost use Rattle.instructions.specs.Instruction.{oneOf, isIncssp, isWrss, isCall, isRet, isWruss, isQuad, sizeOf, lengthFits, wordsFitFrom9, wordsFit, narrow as narrowOf, modeFits, wellFormed};
 use memory::Size;
 
 // The first number of more than 32 bits.
@@ -14,20 +12,6 @@ pub struct Instruction {
     pub length: u64,
     pub a: u64,
     pub b: u64,
-}
-
-// The k-th instruction of a list.
-pub fn nth(words: &[u64], k: usize) -> Instruction
-    requires { ⌜ 4 * k + 3 < count (now words) ⌝ }
-    ensures { λ r. ⌜ r ≡ instructionAt (now (words .entry)) k ⌝ }
-{
-    let at = 4 * k;
-    Instruction {
-        code: words[at],
-        length: words[at + 1],
-        a: words[at + 2],
-        b: words[at + 3],
-    }
 }
 
 impl Instruction {

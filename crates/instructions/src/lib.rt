@@ -4,7 +4,6 @@ mod layout;
 mod permission;
 
 pub use instruction::Instruction;
-pub use instruction::nth;
 pub use layout::state_of;
 pub use permission::hidden;
 pub use permission::shown;

@@ -8,7 +8,8 @@
 --     written-elsewhere                                      every other address holds what it held
 --     length-written, length-stored                          no byte is added or lost
 -- Where addresses lead:
---     spot-places                                            to places among the lent bytes, no two to one place
+--     lookup-places                                          to places among the lent bytes, no two to one place
+--     lookup-kept                                            where they led before, while no byte is added or lost
 --     first-byte-decides                                     on one page, the first byte's page, kind and place decide those of every byte
 --     one-page-exactly                                       `onePage`, by which that is stated, holds wherever all bytes lie on the first one's page
 -- Two memories side by side, over any two lookups:
@@ -25,7 +26,7 @@
 pub use Rattle.memory.proofs.Answers.{load-done, load-failed, loaded-value, loaded-failure, store-done, store-failed}
 pub use Rattle.memory.proofs.Stored.{value-written, written-elsewhere}
 pub use Rattle.memory.proofs.TwoMemories.{length-written, length-stored}
-pub use Rattle.memory.proofs.Lookup.{spot-places}
+pub use Rattle.memory.proofs.Lookup.{lookup-places, lookup-kept}
 pub use Rattle.memory.proofs.OnePage.{first-byte-decides, one-page-exactly}
 pub use Rattle.memory.proofs.TwoMemories.{ready-in-second, same-value, same-load, store-in-both, not-canonical, alike-probe, alike-load}
 pub use Rattle.memory.proofs.PageLists.{pages-extend, extends-pages, order-free}

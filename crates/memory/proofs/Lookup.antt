@@ -9,6 +9,7 @@ use lib.ListN.{length, getD}
 use lib.Dec.{ltb}
 use borrow.Author.Tests.{ltb-true, eqb-true}
 use Rattle.pages.specs.Pages.{pageBytes, pageOf, kindOf, onPage, inPage, spotFrom, spot}
+use Rattle.memory.specs.Access.{lookupOf}
 use Rattle.memory.specs.Extends.{Places}
 use Rattle.pages.specs.declared.pages.Spot.the-variants.{Unlisted, At}
 
@@ -81,3 +82,12 @@ spot-places pages lent = record {
   inside = spot-inside pages lent;
   apart = λ a b k l place e d. together pages lent a b k l place (behind pages lent a k place e) (behind pages lent b l place d);
 }
+
+pub lookup-places : (pages bytes : List ℕ) → Places (lookupOf pages bytes) (length bytes)
+unfolding lookupOf
+lookup-places pages bytes = spot-places pages (length bytes)
+
+-- as long as no byte is added or lost, addresses lead where they led
+pub lookup-kept : (pages bytes after : List ℕ) → length after ≡ length bytes → lookupOf pages after ≡ lookupOf pages bytes
+unfolding lookupOf
+lookup-kept pages bytes after kept = rw kept

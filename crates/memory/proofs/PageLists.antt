@@ -7,6 +7,7 @@ use native.Mathlib.Omega.{arith}
 use lib.ListN.{length, getD, drop, length-take, length-drop}
 use lib.Seq.{getD-take, getD-drop, ext-getD}
 use Rattle.pages.specs.Pages.{pageBytes, pageOf, kindOf, onPage, anyEntry, listing, spot}
+use Rattle.memory.specs.Access.{lookupOf}
 use Rattle.memory.specs.Extends.{Cell, absent, present, cell, Extends, pageAt, HoldsPages, Untouched}
 use Rattle.pages.specs.declared.pages.Listing.the-variants.{Valid}
 use Rattle.memory.proofs.Cells.{held, cell-at}
@@ -38,7 +39,8 @@ module _ (pages₁ bytes₁ pages₂ bytes₂ : List ℕ) (good₂ : Good pages�
 
 -- The second list, valid, holds every page of the first: its memory extends the first's.
 pub pages-extend : (pages₁ bytes₁ pages₂ bytes₂ : List ℕ) → listing pages₂ (length bytes₂) ≡ Valid → HoldsPages pages₁ bytes₁ pages₂ bytes₂
-    → Extends (spot pages₁ (length bytes₁)) bytes₁ (spot pages₂ (length bytes₂)) bytes₂ bytes₂
+    → Extends (lookupOf pages₁ bytes₁) bytes₁ (lookupOf pages₂ bytes₂) bytes₂ bytes₂
+unfolding lookupOf
 pages-extend pages₁ bytes₁ pages₂ bytes₂ valid₂ holds = record {
   old = held-in-second pages₁ bytes₁ pages₂ bytes₂ (valid pages₂ (length bytes₂) valid₂) holds;
   added = λ address none. refl;
@@ -46,7 +48,8 @@ pages-extend pages₁ bytes₁ pages₂ bytes₂ valid₂ holds = record {
 
 -- The order of a list has no meaning: two valid lists of the same pages hold the same at every address.
 pub order-free : (pages₁ bytes₁ pages₂ bytes₂ : List ℕ) → listing pages₁ (length bytes₁) ≡ Valid → listing pages₂ (length bytes₂) ≡ Valid → HoldsPages pages₁ bytes₁ pages₂ bytes₂ → HoldsPages pages₂ bytes₂ pages₁ bytes₁
-    → (address : ℕ) → cell (spot pages₁ (length bytes₁)) bytes₁ address ≡ cell (spot pages₂ (length bytes₂)) bytes₂ address
+    → (address : ℕ) → cell (lookupOf pages₁ bytes₁) bytes₁ address ≡ cell (lookupOf pages₂ bytes₂) bytes₂ address
+unfolding lookupOf
 order-free pages₁ bytes₁ pages₂ bytes₂ valid₁ valid₂ there back address =
     either
     (cell (spot pages₁ (length bytes₁)) bytes₁ address)
@@ -120,8 +123,9 @@ module _ (pages₁ bytes₁ pages₂ bytes₂ lent₂ : List ℕ) (good₁ : Goo
 -- Whatever was stored since: while the second memory extends the first, it holds the first's pages as they are now, and the added
 -- pages as they were lent.
 pub extends-pages : (pages₁ lent₁ bytes₁ pages₂ lent₂ bytes₂ : List ℕ) → listing pages₁ (length bytes₁) ≡ Valid → listing pages₂ (length bytes₂) ≡ Valid → length bytes₂ ≡ length lent₂
-    → HoldsPages pages₁ lent₁ pages₂ lent₂ → Extends (spot pages₁ (length bytes₁)) bytes₁ (spot pages₂ (length bytes₂)) bytes₂ lent₂
+    → HoldsPages pages₁ lent₁ pages₂ lent₂ → Extends (lookupOf pages₁ bytes₁) bytes₁ (lookupOf pages₂ bytes₂) bytes₂ lent₂
     → HoldsPages pages₁ bytes₁ pages₂ bytes₂ × Untouched pages₁ pages₂ bytes₂ lent₂
+unfolding lookupOf
 extends-pages pages₁ lent₁ bytes₁ pages₂ lent₂ bytes₂ valid₁ valid₂ kept holds extends =
     let good₁ = valid pages₁ (length bytes₁) valid₁ in
     let good₂ = valid pages₂ (length bytes₂) valid₂ in (

@@ -2,10 +2,10 @@
 use Prim.Native.Nat.{ℕ, zero, suc, _+_, _*_, _/_, _%_}
 use mathlib.Core.Bool.{Bool, true, false, cond}
 use mathlib.Core.List.{List}
-use lib.ListN.{getD, set}
+use lib.ListN.{length, getD, set}
 use lib.Dec.{eqb}
 use Rattle.pages.specs.Address.{wrapped, plus, canonical}
-use Rattle.pages.specs.Pages.{Lookup}
+use Rattle.pages.specs.Pages.{Lookup, spot}
 use Rattle.pages.specs.declared.address.Width.{Width}
 use Rattle.pages.specs.declared.pages.Spot.{Spot}
 use Rattle.pages.specs.declared.pages.Spot.the-variants.{Unlisted, At}
@@ -31,6 +31,12 @@ kindNumber Ordinary = 3
 abbrev pub byteCount : Size → ℕ
 byteCount Four = 4
 byteCount Eight = 8
+
+-- ---- where addresses lead
+
+-- Where the addresses of lent pages lead: the one name by which the crates above say it, whatever way they are looked up.
+unfoldable pub lookupOf : List ℕ → List ℕ → Lookup
+lookupOf pages bytes = spot pages (length bytes)
 
 -- ---- trying an access
 

@@ -4,7 +4,7 @@ ghost use Prim.Native.Nat.{_≤_};
 ghost use lib.ListN.{length};
 ghost use Rattle.pages.specs.Address.{wrapped};
 ghost use Rattle.pages.specs.Pages.{spot};
-ghost use Rattle.memory.specs.Access.{byteIn, number as numberOf, load as loadOf};
+ghost use Rattle.memory.specs.Access.{lookupOf, byteIn, number as numberOf, load as loadOf};
 use crate::access::Access;
 use crate::access::Failure;
 use crate::one_page::Located;
@@ -53,7 +53,7 @@ fn number(pages: &[u64], bytes: &[u8], width: Width, first: u64, n: u64) -> u64
 impl Access {
     // Tries the access, and loads its bytes where it can be done.
     pub fn load(self, pages: &[u64], bytes: &[u8]) -> Loaded
-        ensures { λ r. ⌜ r ≡ loadOf (spot (now (pages .entry)) (length (now (bytes .entry)))) (now (bytes .entry)) self ⌝ }
+        ensures { λ r. ⌜ r ≡ loadOf (lookupOf (now (pages .entry)) (now (bytes .entry))) (now (bytes .entry)) self ⌝ }
     {
         let size = self.size;
         match self.locate(pages, bytes.len()) {

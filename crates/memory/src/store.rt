@@ -3,7 +3,7 @@ ghost use mathlib.Core.Path.{_≡_};
 ghost use lib.ListN.{length, set};
 ghost use Rattle.pages.specs.Address.{wrapped};
 ghost use Rattle.pages.specs.Pages.{spot};
-ghost use Rattle.memory.specs.Access.{putByte, write as writeOf, probe as probeOf, store as storeOf};
+ghost use Rattle.memory.specs.Access.{lookupOf, putByte, write as writeOf, probe as probeOf, store as storeOf};
 use crate::access::Access;
 use crate::access::Reach;
 use crate::one_page::Located;
@@ -55,8 +55,8 @@ fn write(pages: &[u64], bytes: &mut [u8], width: Width, first: u64, n: u64, valu
 impl Access {
     // Tries the access, and stores the value's low bytes where it can be done; else every byte stays as it was.
     pub fn store(self, pages: &[u64], bytes: &mut [u8], value: u64) -> Reach
-        ensures { λ r. ⌜ r ≡ probeOf (spot (now (pages .entry)) (length (now (bytes .entry)))) self ⌝ }
-        ensures { λ _. ⌜ now (bytes .exit) ≡ storeOf (spot (now (pages .entry)) (length (now (bytes .entry)))) self value (now (bytes .entry)) ⌝ }
+        ensures { λ r. ⌜ r ≡ probeOf (lookupOf (now (pages .entry)) (now (bytes .entry))) self ⌝ }
+        ensures { λ _. ⌜ now (bytes .exit) ≡ storeOf (lookupOf (now (pages .entry)) (now (bytes .entry))) self value (now (bytes .entry)) ⌝ }
     {
         let size = self.size;
         match self.locate(pages, bytes.len()) {

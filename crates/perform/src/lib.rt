@@ -1,7 +1,6 @@
 // A single operation: the form of an instruction, its dispatch, and the permission bits around it.
 ghost use mathlib.Core.Path.{_≡_};
-ghost use lib.ListN.{length as count};
-ghost use Rattle.pages.specs.Pages.{spot};
+ghost use Rattle.memory.specs.Access.{lookupOf};
 ghost use Rattle.processor.specs.Prog.{operate};
 ghost use Rattle.processor.specs.Outcomes.{stepOf};
 ghost use Rattle.perform.specs.Exec.{operationOf, perform as performOf};
@@ -40,7 +39,7 @@ fn framed(step: Instruction) -> bool
 
 // Runs a well-formed instruction whose code is 9 or above.
 fn dispatch_from_9(step: Instruction, state: State, pages: &[u64], bytes: &mut [u8]) -> Outcome
-    ensures { λ r. ⌜ stepOf r (now (bytes .exit)) ≡ operate (spot (now (pages .entry)) (count (now (bytes .entry)))) (operationFrom9 step state) state (now (bytes .entry)) ⌝ }
+    ensures { λ r. ⌜ stepOf r (now (bytes .exit)) ≡ operate (lookupOf (now (pages .entry)) (now (bytes .entry))) (operationFrom9 step state) state (now (bytes .entry)) ⌝ }
 {
     if step.is_ret() {
         return ret::execute(state, pages, bytes, step.a);
@@ -60,27 +59,27 @@ fn dispatch(
     pages: &[u64],
     bytes: &mut [u8],
 ) -> Outcome
-    ensures { λ r. ⌜ stepOf r (now (bytes .exit)) ≡ operate (spot (now (pages .entry)) (count (now (bytes .entry)))) (operationOf codes step permitted state) state (now (bytes .entry)) ⌝ }
+    ensures { λ r. ⌜ stepOf r (now (bytes .exit)) ≡ operate (lookupOf (now (pages .entry)) (now (bytes .entry))) (operationOf codes step permitted state) state (now (bytes .entry)) ⌝ }
 {
-    let length = step.length;
+    let span = step.length;
     let a = step.a;
     let b = step.b;
     let size = step.size();
     if step.is_wrss() {
-        return wrss::execute(state, permitted, pages, bytes, size, a, b, length);
+        return wrss::execute(state, permitted, pages, bytes, size, a, b, span);
     }
     if step.is_incssp() {
-        return incssp::execute(state, pages, bytes, size, b, length);
+        return incssp::execute(state, pages, bytes, size, b, span);
     }
     if step.code == 3 {
-        return rstorssp::execute(state, pages, bytes, a, length);
+        return rstorssp::execute(state, pages, bytes, a, span);
     }
     if step.code == 4 {
-        return saveprevssp::execute(state, pages, bytes, length);
+        return saveprevssp::execute(state, pages, bytes, span);
     }
     if step.is_call() {
         let target = call_target(step, state);
-        return call::execute(state, pages, bytes, target, framed(step), length);
+        return call::execute(state, pages, bytes, target, framed(step), span);
     }
     dispatch_from_9(step, state, pages, bytes)
 }
@@ -108,7 +107,7 @@ fn unhide(before: State, outcome: Outcome) -> Outcome
 
 // One instruction on a state and the lent bytes; a malformed one gets refusal 6.
 pub fn perform(step: Instruction, state: State, pages: &[u64], bytes: &mut [u8]) -> Outcome
-    ensures { λ r. ⌜ stepOf r (now (bytes .exit)) ≡ performOf codes (spot (now (pages .entry)) (count (now (bytes .entry)))) step state (now (bytes .entry)) ⌝ }
+    ensures { λ r. ⌜ stepOf r (now (bytes .exit)) ≡ performOf codes (lookupOf (now (pages .entry)) (now (bytes .entry))) step state (now (bytes .entry)) ⌝ }
 {
     if !step.well_formed(state.mode) {
         return Outcome {

@@ -29,7 +29,7 @@ minus s a b = minusAt (widthOf s) a b
 
 -- the rules call it Next
 unfoldable pub next : State → ℕ → ℕ
-next s length = plus s (s .ip) length
+next s span = plus s (s .ip) span
 
 -- ---- privilege and CET
 

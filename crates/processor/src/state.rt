@@ -107,10 +107,10 @@ impl State {
     }
 
     // The address of the next instruction.
-    pub fn next(self, length: u64) -> u64
-        ensures { λ r. ⌜ r ≡ nextOf self length ⌝ }
+    pub fn next(self, span: u64) -> u64
+        ensures { λ r. ⌜ r ≡ nextOf self span ⌝ }
     {
-        self.plus(self.ip, length)
+        self.plus(self.ip, span)
     }
 
     pub fn with_sp(mut self, sp: u64) -> State

@@ -4,9 +4,10 @@ use mathlib.Core.Bool.{Bool, not, cond, _||_}
 use mathlib.Core.List.{List}
 use lib.ListN.{length}
 use lib.Dec.{eqb, ltb}
-use Rattle.pages.specs.Pages.{Lookup, listing, spot}
+use Rattle.pages.specs.Pages.{Lookup, listing}
 use Rattle.pages.specs.declared.pages.Listing.{Listing}
 use Rattle.pages.specs.declared.pages.Listing.the-variants.{Valid, BadLength, BadKind, BadAddress, Repeated}
+use Rattle.memory.specs.Access.{lookupOf}
 use Rattle.processor.specs.State.{inRange}
 use Rattle.processor.specs.Prog.{Step}
 use Rattle.answers.specs.declared.answer.Answer.{Answer}
@@ -51,7 +52,7 @@ stepIf (Failed refusal) go s bytes = refused refusal s bytes
 
 -- one instruction by itself, with every refusal that it can have
 unfoldable pub step : InstructionSet → List ℕ → Instruction → State → List ℕ → Step
-step set pages i s bytes = stepIf (check pages (length bytes) (inRange s) 4) (perform set (spot pages (length bytes)) i s bytes) s bytes
+step set pages i s bytes = stepIf (check pages (length bytes) (inRange s) 4) (perform set (lookupOf pages bytes) i s bytes) s bytes
 
 -- ---- a run
 
@@ -86,7 +87,7 @@ runIf (Failed refusal) go s bytes = endsAt 0 (refused refusal s bytes)
 -- the whole run, from any input whatever
 unfoldable pub run : InstructionSet → List ℕ → State → List ℕ → List ℕ → Run
 run set pages s bytes words =
-    runIf (check pages (length bytes) (inRange s) (length words)) (runFrom set (spot pages (length bytes)) (instructionAt words) 0 (length words / 4) s bytes) s bytes
+    runIf (check pages (length bytes) (inRange s) (length words)) (runFrom set (lookupOf pages bytes) (instructionAt words) 0 (length words / 4) s bytes) s bytes
 
 -- the papers' "after k": state and bytes after k single operations from the start, whatever each answers
 unfoldable pub after : InstructionSet → Lookup → (ℕ → Instruction) → ℕ → State → List ℕ → Step

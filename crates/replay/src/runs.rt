@@ -1,14 +1,14 @@
 // A list of instructions, up to the first that is refused or faults.
 ghost use mathlib.Core.Path.{_≡_};
-ghost use Prim.Native.Nat.{_/_, _%_};
-ghost use lib.ListN.{length as count};
-ghost use Rattle.pages.specs.Pages.{spot};
+ghost use Prim.Native.Nat.{_+_, _*_, _/_, _<_};
+ghost use lib.ListN.{length};
+ghost use Rattle.memory.specs.Access.{lookupOf};
 ghost use Rattle.instructions.specs.Instruction.{instructionAt};
 ghost use Rattle.perform.specs.Codes.{codes};
 ghost use Rattle.replay.specs.Run.{run as runWith, runFrom, runOf};
 use crate::steps::Tested;
 use crate::steps::check;
-use instructions::nth;
+use instructions::Instruction;
 use perform::perform;
 use processor::Answer;
 use processor::State;
@@ -20,9 +20,23 @@ pub struct Replay {
     pub state: State,
 }
 
+// The k-th instruction of a list.
+fn nth(words: &[u64], k: usize) -> Instruction
+    requires { ⌜ 4 * k + 3 < length (now words) ⌝ }
+    ensures { λ r. ⌜ r ≡ instructionAt (now (words .entry)) k ⌝ }
+{
+    let at = 4 * k;
+    Instruction {
+        code: words[at],
+        length: words[at + 1],
+        a: words[at + 2],
+        b: words[at + 3],
+    }
+}
+
 // Every instruction of an input that passed its tests.
 fn walk(state: State, pages: &[u64], bytes: &mut [u8], words: &[u64]) -> Replay
-    ensures { λ r. ⌜ runOf r (now (bytes .exit)) ≡ runFrom codes (spot (now (pages .entry)) (count (now (bytes .entry)))) (instructionAt (now (words .entry))) 0 (count (now (words .entry)) / 4) state (now (bytes .entry)) ⌝ }
+    ensures { λ r. ⌜ runOf r (now (bytes .exit)) ≡ runFrom codes (lookupOf (now (pages .entry)) (now (bytes .entry))) (instructionAt (now (words .entry))) 0 (length (now (words .entry)) / 4) state (now (bytes .entry)) ⌝ }
 {
     let listed = words.len() / 4;
     let mut state = state;

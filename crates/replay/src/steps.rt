@@ -1,6 +1,5 @@
 // What is tested of an input before any step, and one instruction by itself.
 ghost use mathlib.Core.Path.{_≡_};
-ghost use lib.ListN.{length as count};
 ghost use Rattle.processor.specs.Outcomes.{stepOf};
 ghost use Rattle.perform.specs.Codes.{codes};
 ghost use Rattle.replay.specs.Run.{badWords, check as checkOf, step as stepWith};

@@ -1,7 +1,6 @@
 // Near RET: back to the address on top of the stack.
 ghost use mathlib.Core.Path.{_≡_};
-ghost use lib.ListN.{length as lengthOf};
-ghost use Rattle.pages.specs.Pages.{spot};
+ghost use Rattle.memory.specs.Access.{lookupOf};
 ghost use Rattle.processor.specs.Prog.{interp, operate};
 ghost use Rattle.processor.specs.Outcomes.{stepOf};
 ghost use Rattle.ret.specs.Popped.{resultOf};
@@ -23,7 +22,7 @@ enum Popped {
 
 // Pops the shadow stack where it is enabled; what is popped must be the target.
 fn new_ssp(state: State, pages: &[u64], bytes: &[u8], target: u64) -> Popped
-    ensures { λ r. ⌜ resultOf r (now (bytes .entry)) ≡ interp (spot (now (pages .entry)) (lengthOf (now (bytes .entry)))) (newSsp state target) (now (bytes .entry)) ⌝ }
+    ensures { λ r. ⌜ resultOf r (now (bytes .entry)) ≡ interp (lookupOf (now (pages .entry)) (now (bytes .entry))) (newSsp state target) (now (bytes .entry)) ⌝ }
 {
     if !state.enabled() {
         return Popped::Top(state.ssp);
@@ -44,7 +43,7 @@ fn new_ssp(state: State, pages: &[u64], bytes: &[u8], target: u64) -> Popped
 
 // `count` is how many bytes SP moves past the return address.
 pub fn execute(state: State, pages: &[u64], bytes: &[u8], count: u64) -> Outcome
-    ensures { λ r. ⌜ stepOf r (now (bytes .entry)) ≡ operate (spot (now (pages .entry)) (lengthOf (now (bytes .entry)))) (ret count state) state (now (bytes .entry)) ⌝ }
+    ensures { λ r. ⌜ stepOf r (now (bytes .entry)) ≡ operate (lookupOf (now (pages .entry)) (now (bytes .entry))) (ret count state) state (now (bytes .entry)) ⌝ }
 {
     if runs_past(state, state.sp) {
         return state.fail(processor::fault(Vector::Stack));

@@ -22,19 +22,19 @@ use Rattle.processor.proofs.Laws.{passed, halted, loaded, not-loaded, stored, c
 use Rattle.bits.specs.Bits.{bit}
 use Rattle.rstorssp.specs.Rstorssp.{goodToken, restoredFlags, rstorssp}
 
-module _ (look : Lookup) (bytes : List ℕ) (a length : ℕ) (s : State) where
-  pub not-usable : usable s ≡ false → operate look (rstorssp a length s) s bytes ≡ stepOf (faulted s ud) bytes
+module _ (look : Lookup) (bytes : List ℕ) (a span : ℕ) (s : State) where
+  pub not-usable : usable s ≡ false → operate look (rstorssp a span s) s bytes ≡ stepOf (faulted s ud) bytes
   unfolding rstorssp
   not-usable u = faults look _ s bytes ud (halted look bytes (usable s) ud _ u)
 
   module _ (u : usable s ≡ true) where
-    pub not-aligned : (a % 8 ≡ 0 → ⊥) → operate look (rstorssp a length s) s bytes ≡ stepOf (faulted s gp) bytes
+    pub not-aligned : (a % 8 ≡ 0 → ⊥) → operate look (rstorssp a span s) s bytes ≡ stepOf (faulted s gp) bytes
     unfolding rstorssp
     not-aligned e = faults look _ s bytes gp (passed look bytes (usable s) ud _ u ∙ halted look bytes (eqb (a % 8) 0) gp _ (ne-eqb _ _ e))
 
     module _ (aligned : a % 8 ≡ 0) where
       pub blocked : (failure : Failure) → loadAt look bytes (shadow s a Eight true) ≡ Unloaded failure
-          → operate look (rstorssp a length s) s bytes ≡ stepOf (faulted s (blame (shadow s a Eight true) failure)) bytes
+          → operate look (rstorssp a span s) s bytes ≡ stepOf (faulted s (blame (shadow s a Eight true) failure)) bytes
       unfolding rstorssp
       blocked failure e =
           faults look _ s bytes _
@@ -43,7 +43,7 @@ module _ (look : Lookup) (bytes : List ℕ) (a length : ℕ) (s : State) where
           ∙ not-loaded look bytes (shadow s a Eight true) _ failure e)
 
       module _ (token : ℕ) (found : loadAt look bytes (shadow s a Eight true) ≡ Value token) where
-        pub bad-token : goodToken s a token ≡ false → operate look (rstorssp a length s) s bytes ≡ stepOf (faulted s cpRstorssp) bytes
+        pub bad-token : goodToken s a token ≡ false → operate look (rstorssp a span s) s bytes ≡ stepOf (faulted s cpRstorssp) bytes
         unfolding rstorssp
         bad-token e =
             faults look _ s bytes cpRstorssp
@@ -53,8 +53,8 @@ module _ (look : Lookup) (bytes : List ℕ) (a length : ℕ) (s : State) where
             ∙ halted look bytes (goodToken s a token) cpRstorssp _ e)
 
         pub restored : goodToken s a token ≡ true
-            → operate look (rstorssp a length s) s bytes
-            ≡ stepOf (completed (withFlags (withSsp s a) (restoredFlags (s .flags) (bit 2 token))) (next s length)) (written look (shadow s a Eight true) (plus s (s .ssp) (longBit s + 2)) bytes)
+            → operate look (rstorssp a span s) s bytes
+            ≡ stepOf (completed (withFlags (withSsp s a) (restoredFlags (s .flags) (bit 2 token))) (next s span)) (written look (shadow s a Eight true) (plus s (s .ssp) (longBit s + 2)) bytes)
         unfolding rstorssp interp
         restored e =
             completes look _ s bytes _ _

@@ -29,10 +29,10 @@ restoredFlags flags carry = multiple 2 (clear 2 (clear 4 (clear 6 (clear 7 (clea
 
 -- `a` is the address of the token. The load is locked, so it counts as a store
 unfoldable pub rstorssp : ℕ → ℕ → State → Prog State
-rstorssp a length s = do
+rstorssp a span s = do
   unless (usable s) ud  -- #UD
   unless (eqb (a % 8) 0) gp  -- #GP(0)
   token ← load (shadow s a Eight true)
   unless (goodToken s a token) cpRstorssp  -- #CP(RSTORSSP)
   store (shadow s a Eight true) (plus s (s .ssp) (longBit s + 2))
-  done (withIp (withFlags (withSsp s a) (restoredFlags (s .flags) (bit 2 token))) (next s length))
+  done (withIp (withFlags (withSsp s a) (restoredFlags (s .flags) (bit 2 token))) (next s span))

@@ -1,7 +1,6 @@
 // RSTORSSP: restore the saved shadow stack pointer, by the token at an address.
 ghost use mathlib.Core.Path.{_≡_};
-ghost use lib.ListN.{length as count};
-ghost use Rattle.pages.specs.Pages.{spot};
+ghost use Rattle.memory.specs.Access.{lookupOf};
 ghost use Rattle.processor.specs.Prog.{operate};
 ghost use Rattle.processor.specs.Outcomes.{stepOf};
 ghost use Rattle.bits.specs.Bits.{bit};
@@ -51,8 +50,8 @@ fn restored_flags(flags: u64, token: u64) -> u64
 }
 
 // `a` is the address of the token.
-pub fn execute(state: State, pages: &[u64], bytes: &mut [u8], a: u64, length: u64) -> Outcome
-    ensures { λ r. ⌜ stepOf r (now (bytes .exit)) ≡ operate (spot (now (pages .entry)) (count (now (bytes .entry)))) (rstorsspOf a length state) state (now (bytes .entry)) ⌝ }
+pub fn execute(state: State, pages: &[u64], bytes: &mut [u8], a: u64, span: u64) -> Outcome
+    ensures { λ r. ⌜ stepOf r (now (bytes .exit)) ≡ operate (lookupOf (now (pages .entry)) (now (bytes .entry))) (rstorsspOf a span state) state (now (bytes .entry)) ⌝ }
 {
     if !state.usable() {
         return state.fail(processor::fault(Vector::InvalidOpcode));
@@ -71,7 +70,7 @@ pub fn execute(state: State, pages: &[u64], bytes: &mut [u8], a: u64, length: u6
             let reach = access.store(pages, bytes, previous);
             let switched = state.with_ssp(a);
             let flagged = switched.with_flags(restored_flags(state.flags, token));
-            flagged.complete(state.next(length))
+            flagged.complete(state.next(span))
         }
     }
 }

@@ -51,20 +51,20 @@ module _ (look : Lookup) (bytes : List ℕ) (s : State) (top : ℕ) where
 
 -- ---- with the token popped
 
-module _ (look : Lookup) (bytes : List ℕ) (token length : ℕ) (s : State) where
-  pub top-failed : (fault : Fault) → interp look (newTop s (plus s (s .ssp) 8)) bytes ≡ broken fault → operate look (leaveToken token length s) s bytes ≡ stepOf (faulted s fault) bytes
+module _ (look : Lookup) (bytes : List ℕ) (token span : ℕ) (s : State) where
+  pub top-failed : (fault : Fault) → interp look (newTop s (plus s (s .ssp) 8)) bytes ≡ broken fault → operate look (leaveToken token span s) s bytes ≡ stepOf (faulted s fault) bytes
   unfolding leaveToken
   top-failed fault e = faults look _ s bytes fault (breaks look _ (newTop s (plus s (s .ssp) 8)) bytes fault e)
 
   module _ (top : ℕ) (t : interp look (newTop s (plus s (s .ssp) 8)) bytes ≡ ended top bytes) where
-    pub not-saved : savedToken s token ≡ false → operate look (leaveToken token length s) s bytes ≡ stepOf (faulted s gp) bytes
+    pub not-saved : savedToken s token ≡ false → operate look (leaveToken token span s) s bytes ≡ stepOf (faulted s gp) bytes
     unfolding leaveToken
     not-saved e = faults look _ s bytes gp (continues look _ (newTop s (plus s (s .ssp) 8)) bytes top bytes t ∙ halted look bytes (savedToken s token) gp _ e)
 
     module _ (saved : savedToken s token ≡ true) where
       pub not-left : (fault : Fault)
           → interp look (storeBoth (shadow s (minus s (multiple 4 token) 4) Four true) 0 (shadow s (minus s (multiple 8 (multiple 4 token)) 8) Eight true) (multiple 4 token + longBit s)) bytes ≡ broken fault
-          → operate look (leaveToken token length s) s bytes ≡ stepOf (faulted s fault) bytes
+          → operate look (leaveToken token span s) s bytes ≡ stepOf (faulted s fault) bytes
       unfolding leaveToken
       not-left fault e =
           faults look _ s bytes fault
@@ -74,7 +74,7 @@ module _ (look : Lookup) (bytes : List ℕ) (token length : ℕ) (s : State) whe
 
       pub left-behind : (after : List ℕ)
           → interp look (storeBoth (shadow s (minus s (multiple 4 token) 4) Four true) 0 (shadow s (minus s (multiple 8 (multiple 4 token)) 8) Eight true) (multiple 4 token + longBit s)) bytes ≡ ended tt after
-          → operate look (leaveToken token length s) s bytes ≡ stepOf (completed (withSsp s top) (next s length)) after
+          → operate look (leaveToken token span s) s bytes ≡ stepOf (completed (withSsp s top) (next s span)) after
       unfolding leaveToken interp
       left-behind after e =
           completes look _ s bytes _ after
@@ -84,19 +84,19 @@ module _ (look : Lookup) (bytes : List ℕ) (token length : ℕ) (s : State) whe
 
 -- ---- the whole
 
-module _ (look : Lookup) (bytes : List ℕ) (length : ℕ) (s : State) where
-  pub not-usable : usable s ≡ false → operate look (saveprevssp length s) s bytes ≡ stepOf (faulted s ud) bytes
+module _ (look : Lookup) (bytes : List ℕ) (span : ℕ) (s : State) where
+  pub not-usable : usable s ≡ false → operate look (saveprevssp span s) s bytes ≡ stepOf (faulted s ud) bytes
   unfolding saveprevssp
   not-usable u = faults look _ s bytes ud (halted look bytes (usable s) ud _ u)
 
   module _ (u : usable s ≡ true) where
-    pub not-aligned : (s .ssp % 8 ≡ 0 → ⊥) → operate look (saveprevssp length s) s bytes ≡ stepOf (faulted s gp) bytes
+    pub not-aligned : (s .ssp % 8 ≡ 0 → ⊥) → operate look (saveprevssp span s) s bytes ≡ stepOf (faulted s gp) bytes
     unfolding saveprevssp
     not-aligned e = faults look _ s bytes gp (passed look bytes (usable s) ud _ u ∙ halted look bytes (eqb (s .ssp % 8) 0) gp _ (ne-eqb _ _ e))
 
     module _ (aligned : s .ssp % 8 ≡ 0) where
       pub blocked : (failure : Failure) → loadAt look bytes (shadow s (s .ssp) Eight false) ≡ Unloaded failure
-          → operate look (saveprevssp length s) s bytes ≡ stepOf (faulted s (blame (shadow s (s .ssp) Eight false) failure)) bytes
+          → operate look (saveprevssp span s) s bytes ≡ stepOf (faulted s (blame (shadow s (s .ssp) Eight false) failure)) bytes
       unfolding saveprevssp
       blocked failure e =
           faults look _ s bytes _
@@ -104,7 +104,7 @@ module _ (look : Lookup) (bytes : List ℕ) (length : ℕ) (s : State) where
           ∙ passed look bytes (eqb (s .ssp % 8) 0) gp _ (eq-eqb _ _ aligned)
           ∙ not-loaded look bytes (shadow s (s .ssp) Eight false) _ failure e)
 
-      pub popped : (token : ℕ) → loadAt look bytes (shadow s (s .ssp) Eight false) ≡ Value token → operate look (saveprevssp length s) s bytes ≡ operate look (leaveToken token length s) s bytes
+      pub popped : (token : ℕ) → loadAt look bytes (shadow s (s .ssp) Eight false) ≡ Value token → operate look (saveprevssp span s) s bytes ≡ operate look (leaveToken token span s) s bytes
       unfolding saveprevssp operate
       popped token e =
           ap (settle s bytes)

@@ -34,18 +34,18 @@ savedToken s token = eqb (bit 1 token) 1 && (isLong s || ltb token (2 ^ 32))
 -- With the token popped: the hole, the token's checks, then 4 zero bytes below Old, and a restore token 8 below Old rounded down to a
 -- multiple of 8; where Old is one, the token covers the zero bytes.
 unfoldable pub leaveToken : ℕ → ℕ → State → Prog State
-leaveToken token length s =
+leaveToken token span s =
     let old : ℕ = multiple 4 token in
     do
       top ← newTop s (plus s (s .ssp) 8)
       unless (savedToken s token) gp  -- #GP(0)
       storeBoth (shadow s (minus s old 4) Four true) 0 (shadow s (minus s (multiple 8 old) 8) Eight true) (old + longBit s)
-      done (withIp (withSsp s top) (next s length))
+      done (withIp (withSsp s top) (next s span))
 
 -- the whole operation: the previous-SSP token is popped, and a restore token left on the stack that it names
 unfoldable pub saveprevssp : ℕ → State → Prog State
-saveprevssp length s = do
+saveprevssp span s = do
   unless (usable s) ud  -- #UD
   unless (eqb (s .ssp % 8) 0) gp  -- #GP(0)
   token ← load (shadow s (s .ssp) Eight false)
-  leaveToken token length s
+  leaveToken token span s

@@ -1,7 +1,6 @@
 // SAVEPREVSSP: leave a restore token on the previous shadow stack.
 ghost use mathlib.Core.Path.{_≡_};
-ghost use lib.ListN.{length as count};
-ghost use Rattle.pages.specs.Pages.{spot};
+ghost use Rattle.memory.specs.Access.{lookupOf};
 ghost use Rattle.processor.specs.Prog.{interp, operate};
 ghost use Rattle.processor.specs.Outcomes.{stepOf};
 ghost use Rattle.saveprevssp.specs.Saveprevssp.{carry as carryOf, popHole, newTop, savedToken, leaveToken, saveprevssp as saveprevsspOf};
@@ -29,7 +28,7 @@ fn carry(state: State) -> bool
 
 // Pops the 4 bytes of the hole, which must be 0.
 fn pop_hole(state: State, pages: &[u64], bytes: &[u8], top: u64) -> Popped
-    ensures { λ r. ⌜ resultOf r (now (bytes .entry)) ≡ interp (spot (now (pages .entry)) (count (now (bytes .entry)))) (popHole state top) (now (bytes .entry)) ⌝ }
+    ensures { λ r. ⌜ resultOf r (now (bytes .entry)) ≡ interp (lookupOf (now (pages .entry)) (now (bytes .entry))) (popHole state top) (now (bytes .entry)) ⌝ }
 {
     let access = state.shadow(top, Size::Four, false);
     match access.load(pages, bytes) {
@@ -46,7 +45,7 @@ fn pop_hole(state: State, pages: &[u64], bytes: &[u8], top: u64) -> Popped
 
 // Pops the hole where CF says that there is one.
 fn new_top(state: State, pages: &[u64], bytes: &[u8], top: u64) -> Popped
-    ensures { λ r. ⌜ resultOf r (now (bytes .entry)) ≡ interp (spot (now (pages .entry)) (count (now (bytes .entry)))) (newTop state top) (now (bytes .entry)) ⌝ }
+    ensures { λ r. ⌜ resultOf r (now (bytes .entry)) ≡ interp (lookupOf (now (pages .entry)) (now (bytes .entry))) (newTop state top) (now (bytes .entry)) ⌝ }
 {
     if !carry(state) {
         return Popped::Top(top);
@@ -71,8 +70,8 @@ fn saved_token(state: State, token: u64) -> bool
 }
 
 // With the token popped: checks it, and leaves a restore token on the stack that it names.
-fn leave_token(state: State, pages: &[u64], bytes: &mut [u8], token: u64, length: u64) -> Outcome
-    ensures { λ r. ⌜ stepOf r (now (bytes .exit)) ≡ operate (spot (now (pages .entry)) (count (now (bytes .entry)))) (leaveToken token length state) state (now (bytes .entry)) ⌝ }
+fn leave_token(state: State, pages: &[u64], bytes: &mut [u8], token: u64, span: u64) -> Outcome
+    ensures { λ r. ⌜ stepOf r (now (bytes .exit)) ≡ operate (lookupOf (now (pages .entry)) (now (bytes .entry))) (leaveToken token span state) state (now (bytes .entry)) ⌝ }
 {
     match new_top(state, pages, bytes, state.plus(state.ssp, 8)) {
         Popped::Failed(fault) => state.fail(fault),
@@ -87,7 +86,7 @@ fn leave_token(state: State, pages: &[u64], bytes: &mut [u8], token: u64, length
                 Stored::NoneStored(fault) => state.fail(fault),
                 Stored::AllStored => {
                     let moved = state.with_ssp(top);
-                    moved.complete(state.next(length))
+                    moved.complete(state.next(span))
                 }
             }
         }
@@ -95,8 +94,8 @@ fn leave_token(state: State, pages: &[u64], bytes: &mut [u8], token: u64, length
 }
 
 // Pops the previous-SSP token off the stack.
-pub fn execute(state: State, pages: &[u64], bytes: &mut [u8], length: u64) -> Outcome
-    ensures { λ r. ⌜ stepOf r (now (bytes .exit)) ≡ operate (spot (now (pages .entry)) (count (now (bytes .entry)))) (saveprevsspOf length state) state (now (bytes .entry)) ⌝ }
+pub fn execute(state: State, pages: &[u64], bytes: &mut [u8], span: u64) -> Outcome
+    ensures { λ r. ⌜ stepOf r (now (bytes .exit)) ≡ operate (lookupOf (now (pages .entry)) (now (bytes .entry))) (saveprevsspOf span state) state (now (bytes .entry)) ⌝ }
 {
     if !state.usable() {
         return state.fail(processor::fault(Vector::InvalidOpcode));
@@ -107,6 +106,6 @@ pub fn execute(state: State, pages: &[u64], bytes: &mut [u8], length: u64) -> Ou
     let access = state.shadow(state.ssp, Size::Eight, false);
     match access.load(pages, bytes) {
         Loaded::Blocked(failure) => state.fail(processor::blame(access, failure)),
-        Loaded::Value(token) => leave_token(state, pages, bytes, token, length),
+        Loaded::Value(token) => leave_token(state, pages, bytes, token, span),
     }
 }

@@ -1,8 +1,7 @@
 // Two stores of one operation: none is done unless both can be.
 ghost use mathlib.Core.Path.{_≡_};
-ghost use lib.ListN.{length as count};
-ghost use Rattle.pages.specs.Pages.{spot};
 ghost use Rattle.stores.specs.Stored.{storedOf};
+ghost use Rattle.memory.specs.Access.{lookupOf};
 ghost use Rattle.processor.specs.Prog.{interp, storeBoth, left};
 use memory::Access;
 use memory::Reach;
@@ -23,8 +22,8 @@ pub fn store_both(
     second: Access,
     v: u64,
 ) -> Stored
-    ensures { λ r. ⌜ r ≡ storedOf (interp (spot (now (pages .entry)) (count (now (bytes .entry)))) (storeBoth first u second v) (now (bytes .entry))) ⌝ }
-    ensures { λ _. ⌜ now (bytes .exit) ≡ left (interp (spot (now (pages .entry)) (count (now (bytes .entry)))) (storeBoth first u second v) (now (bytes .entry))) (now (bytes .entry)) ⌝ }
+    ensures { λ r. ⌜ r ≡ storedOf (interp (lookupOf (now (pages .entry)) (now (bytes .entry))) (storeBoth first u second v) (now (bytes .entry))) ⌝ }
+    ensures { λ _. ⌜ now (bytes .exit) ≡ left (interp (lookupOf (now (pages .entry)) (now (bytes .entry))) (storeBoth first u second v) (now (bytes .entry))) (now (bytes .entry)) ⌝ }
 {
     match first.probe(pages, bytes.len()) {
         Reach::Blocked(failure) => Stored::NoneStored(blame(first, failure)),

@@ -1,6 +1,6 @@
 -- The worked cases, by computation: every definition on the way is opened, and both sides come to the same lists. Assumes nothing.
 use mathlib.Core.Path.{refl}
-use Rattle.memory.specs.Access.{scan, canonicalBytes, listedBytes, probe, number, value, write, written}
+use Rattle.memory.specs.Access.{lookupOf, scan, canonicalBytes, listedBytes, probe, number, value, write, written}
 use Rattle.pages.specs.Address.{wrapped, plus, minus, canonical}
 use Rattle.pages.specs.Pages.{pageOf, kindOf, wrongLength, badKind, badAddress, onPage, anyEntry, repeated, listing, inPage, spotFrom, spot}
 use Rattle.processor.specs.Prog.{_>>=_, interp, operate}
@@ -22,7 +22,7 @@ use Rattle.worked.specs.WorkedReturns.{WorkedReturns}
 
 all-worked : Worked × WorkedReturns
 unfolding scan canonicalBytes listedBytes probe number value write written wrapped plus minus canonical
-    pageOf kindOf wrongLength badKind badAddress onPage anyEntry repeated listing inPage spotFrom spot
+    pageOf kindOf wrongLength badKind badAddress onPage anyEntry repeated listing inPage spotFrom spot lookupOf
     _>>=_ interp operate plusOf minusOf next enabled usable permitted inRange
     incssp wrss recognised wruss home goodToken restoredFlags rstorssp popHole newTop savedToken leaveToken saveprevssp
     displacement relative displaced inCode runsPast pushesFrame call popFrame newSsp ret

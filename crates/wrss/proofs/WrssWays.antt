@@ -20,18 +20,18 @@ use Rattle.processor.specs.declared.state.State.{State}
 use Rattle.processor.proofs.Laws.{passed, halted, stored, not-stored, completes, faults}
 use Rattle.wrss.specs.Wrss.{wrss}
 
-module _ (look : Lookup) (bytes : List ℕ) (size : Size) (permitted : Bool) (a b length : ℕ) (s : State) where
-  pub not-usable : usable s ≡ false → operate look (wrss size permitted a b length s) s bytes ≡ stepOf (faulted s ud) bytes
+module _ (look : Lookup) (bytes : List ℕ) (size : Size) (permitted : Bool) (a b span : ℕ) (s : State) where
+  pub not-usable : usable s ≡ false → operate look (wrss size permitted a b span s) s bytes ≡ stepOf (faulted s ud) bytes
   unfolding wrss
   not-usable u = faults look _ s bytes ud (halted look bytes (usable s) ud _ u)
 
   module _ (u : usable s ≡ true) where
-    pub not-permitted : permitted ≡ false → operate look (wrss size permitted a b length s) s bytes ≡ stepOf (faulted s ud) bytes
+    pub not-permitted : permitted ≡ false → operate look (wrss size permitted a b span s) s bytes ≡ stepOf (faulted s ud) bytes
     unfolding wrss
     not-permitted p = faults look _ s bytes ud (passed look bytes (usable s) ud _ u ∙ halted look bytes permitted ud _ p)
 
     module _ (p : permitted ≡ true) where
-      pub not-aligned : (a % byteCount size ≡ 0 → ⊥) → operate look (wrss size permitted a b length s) s bytes ≡ stepOf (faulted s gp) bytes
+      pub not-aligned : (a % byteCount size ≡ 0 → ⊥) → operate look (wrss size permitted a b span s) s bytes ≡ stepOf (faulted s gp) bytes
       unfolding wrss
       not-aligned e =
           faults look _ s bytes gp
@@ -39,7 +39,7 @@ module _ (look : Lookup) (bytes : List ℕ) (size : Size) (permitted : Bool) (a 
 
       module _ (aligned : a % byteCount size ≡ 0) where
         pub blocked : (failure : Failure) → probe look (shadow s a size true) ≡ Blocked failure
-            → operate look (wrss size permitted a b length s) s bytes ≡ stepOf (faulted s (blame (shadow s a size true) failure)) bytes
+            → operate look (wrss size permitted a b span s) s bytes ≡ stepOf (faulted s (blame (shadow s a size true) failure)) bytes
         unfolding wrss
         blocked failure e =
             faults look _ s bytes _
@@ -49,7 +49,7 @@ module _ (look : Lookup) (bytes : List ℕ) (size : Size) (permitted : Bool) (a 
             ∙ not-stored look bytes (shadow s a size true) b _ failure e)
 
         pub wrote : probe look (shadow s a size true) ≡ Ready
-            → operate look (wrss size permitted a b length s) s bytes ≡ stepOf (completed s (next s length)) (written look (shadow s a size true) b bytes)
+            → operate look (wrss size permitted a b span s) s bytes ≡ stepOf (completed s (next s span)) (written look (shadow s a size true) b bytes)
         unfolding wrss interp
         wrote e =
             completes look _ s bytes _ _

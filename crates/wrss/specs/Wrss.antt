@@ -12,9 +12,9 @@ use Rattle.processor.specs.declared.state.State.{State}
 
 -- `permitted` is WR_SHSTK_EN of this CPL; `a` is the address, `b` the value, of which a store takes the low bytes
 unfoldable pub wrss : Size → Bool → ℕ → ℕ → ℕ → State → Prog State
-wrss size permitted a b length s = do
+wrss size permitted a b span s = do
   unless (usable s) ud  -- #UD
   unless permitted ud  -- #UD
   unless (eqb (a % byteCount size) 0) gp  -- #GP(0)
   store (shadow s a size true) b
-  done (withIp s (next s length))
+  done (withIp s (next s span))

@@ -1,7 +1,6 @@
 // WRSSD and WRSSQ: write to the shadow stack.
 ghost use mathlib.Core.Path.{_≡_};
-ghost use lib.ListN.{length as count};
-ghost use Rattle.pages.specs.Pages.{spot};
+ghost use Rattle.memory.specs.Access.{lookupOf};
 ghost use Rattle.processor.specs.Prog.{operate};
 ghost use Rattle.processor.specs.Outcomes.{stepOf};
 ghost use Rattle.wrss.specs.Wrss.{wrss as wrssOf};
@@ -21,9 +20,9 @@ pub fn execute(
     size: Size,
     a: u64,
     b: u64,
-    length: u64,
+    span: u64,
 ) -> Outcome
-    ensures { λ r. ⌜ stepOf r (now (bytes .exit)) ≡ operate (spot (now (pages .entry)) (count (now (bytes .entry)))) (wrssOf size permitted a b length state) state (now (bytes .entry)) ⌝ }
+    ensures { λ r. ⌜ stepOf r (now (bytes .exit)) ≡ operate (lookupOf (now (pages .entry)) (now (bytes .entry))) (wrssOf size permitted a b span state) state (now (bytes .entry)) ⌝ }
 {
     if !state.usable() {
         return state.fail(processor::fault(Vector::InvalidOpcode));
@@ -37,6 +36,6 @@ pub fn execute(
     let access = state.shadow(a, size, true);
     match access.store(pages, bytes, b) {
         Reach::Blocked(failure) => state.fail(processor::blame(access, failure)),
-        Reach::Ready => state.complete(state.next(length)),
+        Reach::Ready => state.complete(state.next(span)),
     }
 }

@@ -19,18 +19,18 @@ use Rattle.processor.specs.declared.state.State.{State}
 use Rattle.processor.proofs.Laws.{passed, halted, stored, not-stored, completes, faults}
 use Rattle.wruss.specs.Wruss.{recognised, userStore, wruss}
 
-module _ (look : Lookup) (bytes : List ℕ) (size : Size) (a b length : ℕ) (s : State) where
-  pub not-recognised : recognised s ≡ false → operate look (wruss size a b length s) s bytes ≡ stepOf (faulted s ud) bytes
+module _ (look : Lookup) (bytes : List ℕ) (size : Size) (a b span : ℕ) (s : State) where
+  pub not-recognised : recognised s ≡ false → operate look (wruss size a b span s) s bytes ≡ stepOf (faulted s ud) bytes
   unfolding wruss
   not-recognised r = faults look _ s bytes ud (halted look bytes (recognised s) ud _ r)
 
   module _ (r : recognised s ≡ true) where
-    pub not-kernel : (s .cpl ≡ 0 → ⊥) → operate look (wruss size a b length s) s bytes ≡ stepOf (faulted s gp) bytes
+    pub not-kernel : (s .cpl ≡ 0 → ⊥) → operate look (wruss size a b span s) s bytes ≡ stepOf (faulted s gp) bytes
     unfolding wruss
     not-kernel e = faults look _ s bytes gp (passed look bytes (recognised s) ud _ r ∙ halted look bytes (eqb (s .cpl) 0) gp _ (ne-eqb _ _ e))
 
     module _ (kernel : s .cpl ≡ 0) where
-      pub not-aligned : (a % byteCount size ≡ 0 → ⊥) → operate look (wruss size a b length s) s bytes ≡ stepOf (faulted s gp) bytes
+      pub not-aligned : (a % byteCount size ≡ 0 → ⊥) → operate look (wruss size a b span s) s bytes ≡ stepOf (faulted s gp) bytes
       unfolding wruss
       not-aligned e =
           faults look _ s bytes gp
@@ -38,7 +38,7 @@ module _ (look : Lookup) (bytes : List ℕ) (size : Size) (a b length : ℕ) (s 
 
       module _ (aligned : a % byteCount size ≡ 0) where
         -- past the tests
-        tested : interp look (wruss size a b length s) bytes ≡ interp look (store (userStore s a size) b >> done (withIp s (next s length))) bytes
+        tested : interp look (wruss size a b span s) bytes ≡ interp look (store (userStore s a size) b >> done (withIp s (next s span))) bytes
         unfolding wruss
         tested =
             passed look bytes (recognised s) ud _ r
@@ -46,10 +46,10 @@ module _ (look : Lookup) (bytes : List ℕ) (size : Size) (a b length : ℕ) (s 
             ∙ passed look bytes (eqb (a % byteCount size) 0) gp _ (eq-eqb _ _ aligned)
 
         pub blocked : (failure : Failure) → probe look (userStore s a size) ≡ Blocked failure
-            → operate look (wruss size a b length s) s bytes ≡ stepOf (faulted s (blame (userStore s a size) failure)) bytes
+            → operate look (wruss size a b span s) s bytes ≡ stepOf (faulted s (blame (userStore s a size) failure)) bytes
         blocked failure e = faults look _ s bytes _ (tested ∙ not-stored look bytes (userStore s a size) b _ failure e)
 
         pub wrote : probe look (userStore s a size) ≡ Ready
-            → operate look (wruss size a b length s) s bytes ≡ stepOf (completed s (next s length)) (written look (userStore s a size) b bytes)
+            → operate look (wruss size a b span s) s bytes ≡ stepOf (completed s (next s span)) (written look (userStore s a size) b bytes)
         unfolding interp
         wrote e = completes look _ s bytes _ _ (tested ∙ stored look bytes (userStore s a size) b _ e)

@@ -21,9 +21,9 @@ userStore s first size = record { kind = UserShadow; store = true; user = true; 
 
 -- `a` is the address, `b` the value, of which a store takes the low bytes
 unfoldable pub wruss : Size → ℕ → ℕ → ℕ → State → Prog State
-wruss size a b length s = do
+wruss size a b span s = do
   unless (recognised s) ud  -- #UD
   unless (eqb (s .cpl) 0) gp  -- #GP(0)
   unless (eqb (a % byteCount size) 0) gp  -- #GP(0)
   store (userStore s a size) b
-  done (withIp s (next s length))
+  done (withIp s (next s span))

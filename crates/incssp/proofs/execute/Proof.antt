@@ -3,11 +3,9 @@ use Prim.Native.Nat.{_-_, _*_, _%_}
 use mathlib.Core.Path.{_≡_, sym, _∙_}
 use mathlib.Core.Bool.{true, false}
 use native.Mathlib.Omega.{arith}
-use lib.ListN.{length as count}
 use borrow.Author.Tests.{not-true, not-false}
 use borrow.Author.Needs.{needs}
-use Rattle.memory.specs.Access.{byteCount, load as loadAt}
-use Rattle.pages.specs.Pages.{spot}
+use Rattle.memory.specs.Access.{lookupOf, byteCount, load as loadAt}
 use Rattle.processor.specs.State.{usable, plus, withSsp}
 use Rattle.processor.specs.Accesses.{shadow}
 use Rattle.processor.proofs.Laws.{product}
@@ -31,7 +29,7 @@ is-usable c = sym (c .before .usable .ensures) ∙ not-false _ (c .if1 .left)
 moved : (c : tie.After-with-ssp) → c .with-ssp .result ≡ withSsp (c .before .before .before .before .before .before .before .args .state) (plus (c .before .before .before .before .before .before .before .args .state) (c .before .before .before .before .before .before .before .args .state .ssp) (byteCount (c .before .before .before .before .before .before .before .args .size) * (c .before .before .before .before .before .before .before .args .b % 256)))
 moved c = rw (c .with-ssp .ensures, c .before .plus .ensures, c .before .before .bytes .ensures)
 
-first : (c : tie.After-load) → loadAt (spot (c .before .before .before .before .before .before .before .before .before .args .pages .now) (count (c .before .before .before .before .before .before .before .before .before .args .bytes .now))) (c .before .before .before .before .before .before .before .before .before .args .bytes .now) (shadow (c .before .before .before .before .before .before .before .before .before .args .state) (c .before .before .before .before .before .before .before .before .before .args .state .ssp) (c .before .before .before .before .before .before .before .before .before .args .size) false) ≡ c .load .result
+first : (c : tie.After-load) → loadAt (lookupOf (c .before .before .before .before .before .before .before .before .before .args .pages .now) (c .before .before .before .before .before .before .before .before .before .args .bytes .now)) (c .before .before .before .before .before .before .before .before .before .args .bytes .now) (shadow (c .before .before .before .before .before .before .before .before .before .args .state) (c .before .before .before .before .before .before .before .before .before .args .state .ssp) (c .before .before .before .before .before .before .before .before .before .args .size) false) ≡ c .load .result
 first c = rw (← c .before .shadow .ensures) (sym (c .load .ensures))
 
 last-is : (c : tie.After-shadow2)
@@ -40,7 +38,7 @@ last-is : (c : tie.After-shadow2)
 last-is c = rw (c .shadow2 .ensures, c .before .plus2 .ensures, c .before .before .before .before .before .before .before .before .before .bytes .ensures)
 
 last : (c : tie.After-load2)
-    → loadAt (spot (c .before .before .before .before .before .before .before .before .before .before .before .before .before .before .before .args .pages .now) (count (c .before .before .before .before .before .before .before .before .before .before .before .before .before .before .before .args .bytes .now))) (c .before .before .before .before .before .before .before .before .before .before .before .before .before .before .before .args .bytes .now)
+    → loadAt (lookupOf (c .before .before .before .before .before .before .before .before .before .before .before .before .before .before .before .args .pages .now) (c .before .before .before .before .before .before .before .before .before .before .before .before .before .before .before .args .bytes .now)) (c .before .before .before .before .before .before .before .before .before .before .before .before .before .before .before .args .bytes .now)
     (shadow (c .before .before .before .before .before .before .before .before .before .before .before .before .before .before .before .args .state) (plus (c .before .before .before .before .before .before .before .before .before .before .before .before .before .before .before .args .state) (c .before .before .before .before .before .before .before .before .before .before .before .before .before .before .before .args .state .ssp) (byteCount (c .before .before .before .before .before .before .before .before .before .before .before .before .before .before .before .args .size) * (c .before .before .before .before .before .before .before .before .before .before .before .before .before .before .before .args .b % 256 - 1))) (c .before .before .before .before .before .before .before .before .before .before .before .before .before .before .before .args .size) false)
     ≡ c .load2 .result
 last c = rw (← last-is (c .before)) (sym (c .load2 .ensures))

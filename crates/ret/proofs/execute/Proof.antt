@@ -1,11 +1,9 @@
 -- `ret::execute` meets its contract: each return cites the way through the definition that leads to it. Assumes nothing.
 use mathlib.Core.Path.{_≡_, sym, _∙_, ap}
 use mathlib.Core.Bool.{false}
-use lib.ListN.{length as lengthOf}
 use borrow.Author.Tests.{not-true, not-false}
 use borrow.Author.Needs.{needs}
-use Rattle.memory.specs.Access.{load as loadAt}
-use Rattle.pages.specs.Pages.{spot}
+use Rattle.memory.specs.Access.{lookupOf, load as loadAt}
 use Rattle.processor.specs.Accesses.{ordinary}
 use Rattle.call.specs.Call.{pushed, runsPast}
 use Rattle.ret.specs.Popped.{resultOf}
@@ -21,7 +19,7 @@ is-inside c = sym (c .before .runs-past .ensures) ∙ c .if1 .left
 stack-load : (c : tie.After-ordinary) → c .ordinary .result ≡ ordinary (c .before .before .before .before .before .before .args .state) (c .before .before .before .before .before .before .args .state .sp) (pushed (c .before .before .before .before .before .before .args .state)) false
 stack-load c = rw (c .ordinary .ensures, c .before .pushed .ensures)
 
-found : (c : tie.After-load) → loadAt (spot (c .before .before .before .before .before .before .before .args .pages .now) (lengthOf (c .before .before .before .before .before .before .before .args .bytes .now))) (c .before .before .before .before .before .before .before .args .bytes .now) (ordinary (c .before .before .before .before .before .before .before .args .state) (c .before .before .before .before .before .before .before .args .state .sp) (pushed (c .before .before .before .before .before .before .before .args .state)) false) ≡ c .load .result
+found : (c : tie.After-load) → loadAt (lookupOf (c .before .before .before .before .before .before .before .args .pages .now) (c .before .before .before .before .before .before .before .args .bytes .now)) (c .before .before .before .before .before .before .before .args .bytes .now) (ordinary (c .before .before .before .before .before .before .before .args .state) (c .before .before .before .before .before .before .before .args .state .sp) (pushed (c .before .before .before .before .before .before .before .args .state)) false) ≡ c .load .result
 found c = rw (← stack-load (c .before)) (sym (c .load .ensures))
 
 runs-past-requires : tie.Need-runs-past-requires

@@ -1,11 +1,9 @@
 -- `new_ssp` meets its contract, by what the shadow load gives. Assumes nothing.
 use mathlib.Core.Path.{_≡_, sym, _∙_}
 use mathlib.Core.Bool.{true, false}
-use lib.ListN.{length as lengthOf}
 use borrow.Author.Tests.{not-true, not-false}
 use borrow.Author.Needs.{needs}
-use Rattle.memory.specs.Access.{load as loadAt}
-use Rattle.pages.specs.Pages.{spot}
+use Rattle.memory.specs.Access.{lookupOf, load as loadAt}
 use Rattle.processor.specs.State.{enabled}
 use Rattle.processor.specs.Accesses.{shadow}
 use Rattle.call.specs.Call.{pushed}
@@ -20,7 +18,7 @@ is-on c = sym (c .before .enabled .ensures) ∙ not-false _ (c .if1 .left)
 frame-load : (c : tie.After-shadow) → c .shadow .result ≡ shadow (c .before .before .before .before .before .before .args .state) (c .before .before .before .before .before .before .args .state .ssp) (pushed (c .before .before .before .before .before .before .args .state)) false
 frame-load c = rw (c .shadow .ensures, c .before .pushed .ensures)
 
-found : (c : tie.After-load) → loadAt (spot (c .before .before .before .before .before .before .before .args .pages .now) (lengthOf (c .before .before .before .before .before .before .before .args .bytes .now))) (c .before .before .before .before .before .before .before .args .bytes .now) (shadow (c .before .before .before .before .before .before .before .args .state) (c .before .before .before .before .before .before .before .args .state .ssp) (pushed (c .before .before .before .before .before .before .before .args .state)) false) ≡ c .load .result
+found : (c : tie.After-load) → loadAt (lookupOf (c .before .before .before .before .before .before .before .args .pages .now) (c .before .before .before .before .before .before .before .args .bytes .now)) (c .before .before .before .before .before .before .before .args .bytes .now) (shadow (c .before .before .before .before .before .before .before .args .state) (c .before .before .before .before .before .before .before .args .state .ssp) (pushed (c .before .before .before .before .before .before .before .args .state)) false) ≡ c .load .result
 found c = rw (← frame-load (c .before)) (sym (c .load .ensures))
 
 enabled-requires : tie.Need-enabled-requires

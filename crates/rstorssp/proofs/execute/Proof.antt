@@ -2,12 +2,10 @@
 use mathlib.Core.Path.{_≡_, sym, _∙_}
 use mathlib.Core.Bool.{true}
 use native.Mathlib.Omega.{arith}
-use lib.ListN.{length as count}
 use borrow.Author.Tests.{not-true, not-false}
 use borrow.Author.Needs.{needs}
 use Rattle.processor.proofs.Laws.{long-small}
-use Rattle.memory.specs.Access.{load as loadAt}
-use Rattle.pages.specs.Pages.{spot}
+use Rattle.memory.specs.Access.{lookupOf, load as loadAt}
 use Rattle.memory.specs.declared.access.Size.the-variants.{Eight}
 use Rattle.memory.proofs.Laws.{loaded-value, store-done}
 use Rattle.processor.specs.State.{usable}
@@ -29,7 +27,7 @@ fail-requires c κs = search needs
 is-usable : (c : tie.Else1) → usable (c .before .before .before .before .args .state) ≡ true
 is-usable c = sym (c .before .usable .ensures) ∙ not-false _ (c .if1 .left)
 
-found : (c : tie.After-load) → loadAt (spot (c .before .before .before .before .before .before .before .before .args .pages .now) (count (c .before .before .before .before .before .before .before .before .args .bytes .now))) (c .before .before .before .before .before .before .before .before .args .bytes .now) (shadow (c .before .before .before .before .before .before .before .before .args .state) (c .before .before .before .before .before .before .before .before .args .a) Eight true) ≡ c .load .result
+found : (c : tie.After-load) → loadAt (lookupOf (c .before .before .before .before .before .before .before .before .args .pages .now) (c .before .before .before .before .before .before .before .before .args .bytes .now)) (c .before .before .before .before .before .before .before .before .args .bytes .now) (shadow (c .before .before .before .before .before .before .before .before .args .state) (c .before .before .before .before .before .before .before .before .args .a) Eight true) ≡ c .load .result
 found c = rw (← c .before .before .shadow .ensures) (sym (c .load .ensures))
 
 returns : tie.Need-returns

@@ -3,10 +3,9 @@ use Prim.Native.Nat.{ℕ, _+_}
 use mathlib.Core.Path.{_≡_, sym, _∙_, ap}
 use mathlib.Core.Bool.{true}
 use native.Mathlib.Omega.{arith}
-use lib.ListN.{length as count}
 use borrow.Author.Tests.{not-true, not-false}
 use borrow.Author.Needs.{needs}
-use Rattle.pages.specs.Pages.{spot}
+use Rattle.memory.specs.Access.{lookupOf}
 use Rattle.memory.specs.declared.access.Size.the-variants.{Four, Eight}
 use Rattle.processor.specs.State.{longBit, plus, minus}
 use Rattle.processor.specs.Accesses.{shadow}
@@ -50,14 +49,14 @@ same-length : tie.Need-same-length
 same-length c = search needs
 
 -- the new top, and the two stores, as the definition has them
-topped : (c : tie.After-new-top) → interp (spot (c .before .before .before .before .before .args .pages .now) (count (c .before .before .before .before .before .args .bytes .now))) (newTop (c .before .before .before .before .before .args .state) (plus (c .before .before .before .before .before .args .state) (c .before .before .before .before .before .args .state .ssp) 8)) (c .before .before .before .before .before .args .bytes .now) ≡ resultOf (c .new-top .result) (c .before .before .before .before .before .args .bytes .now)
+topped : (c : tie.After-new-top) → interp (lookupOf (c .before .before .before .before .before .args .pages .now) (c .before .before .before .before .before .args .bytes .now)) (newTop (c .before .before .before .before .before .args .state) (plus (c .before .before .before .before .before .args .state) (c .before .before .before .before .before .args .state .ssp) 8)) (c .before .before .before .before .before .args .bytes .now) ≡ resultOf (c .new-top .result) (c .before .before .before .before .before .args .bytes .now)
 topped c = rw (← c .before .plus .ensures) (sym (c .new-top .ensures))
 
 abbrev the-stores : tie.After-store-both → Result (Unit {0})
 the-stores c =
     let s = c .before .before .before .before .before .before .before .before .before .before .before .before .before .before .before .before .before .args .state in
     let old : ℕ = multiple 4 (c .before .before .before .before .before .before .before .before .before .before .before .before .before .before .before .before .before .args .token) in
-    interp (spot (c .before .before .before .before .before .before .before .before .before .before .before .before .before .before .before .before .before .args .pages .now) (count (c .before .before .before .before .before .before .before .before .before .before .before .before .before .before .before .before .before .args .bytes .now))) (storeBoth (shadow s (minus s old 4) Four true) 0 (shadow s (minus s (multiple 8 old) 8) Eight true) (old + longBit s)) (c .before .before .before .before .before .before .before .before .before .before .before .before .before .before .before .before .before .args .bytes .now)
+    interp (lookupOf (c .before .before .before .before .before .before .before .before .before .before .before .before .before .before .before .before .before .args .pages .now) (c .before .before .before .before .before .before .before .before .before .before .before .before .before .before .before .before .before .args .bytes .now)) (storeBoth (shadow s (minus s old 4) Four true) 0 (shadow s (minus s (multiple 8 old) 8) Eight true) (old + longBit s)) (c .before .before .before .before .before .before .before .before .before .before .before .before .before .before .before .before .before .args .bytes .now)
 
 stores : (c : tie.After-store-both) → (c .store-both .result ≡ storedOf (the-stores c)) × (c .store-both .last .1 .0 ≡ left (the-stores c) (c .before .before .before .before .before .before .before .before .before .before .before .before .before .before .before .before .before .args .bytes .now))
 stores c =

@@ -1,10 +1,8 @@
 -- `pop_hole` meets its contract, by what the load gives. Assumes nothing.
 use mathlib.Core.Path.{_≡_, sym, _∙_}
 use mathlib.Core.Bool.{false}
-use lib.ListN.{length as count}
 use borrow.Author.Needs.{needs}
-use Rattle.memory.specs.Access.{load as loadAt}
-use Rattle.pages.specs.Pages.{spot}
+use Rattle.memory.specs.Access.{lookupOf, load as loadAt}
 use Rattle.memory.specs.declared.access.Size.the-variants.{Four}
 use Rattle.processor.specs.State.{plus}
 use Rattle.processor.specs.Accesses.{shadow}
@@ -33,7 +31,7 @@ plus-requires c κs = search needs
 fault-requires : tie.Need-fault-requires
 fault-requires c κs = search needs
 
-found : (c : tie.After-load) → loadAt (spot (c .before .before .before .before .args .pages .now) (count (c .before .before .before .before .args .bytes .now))) (c .before .before .before .before .args .bytes .now) (shadow (c .before .before .before .before .args .state) (c .before .before .before .before .args .top) Four false) ≡ c .load .result
+found : (c : tie.After-load) → loadAt (lookupOf (c .before .before .before .before .args .pages .now) (c .before .before .before .before .args .bytes .now)) (c .before .before .before .before .args .bytes .now) (shadow (c .before .before .before .before .args .state) (c .before .before .before .before .args .top) Four false) ≡ c .load .result
 found c = rw (← c .before .shadow .ensures) (sym (c .load .ensures))
 
 returns : tie.Need-returns

@@ -1,9 +1,8 @@
 -- `store_both` meets its contract: what trying the two accesses finds decides, and both are stored once both are ready. Assumes nothing.
 use mathlib.Core.Path.{_≡_, sym, _∙_, ap}
-use lib.ListN.{length as count}
+use lib.ListN.{length}
 use borrow.Author.Needs.{needs}
-use Rattle.memory.specs.Access.{written}
-use Rattle.pages.specs.Pages.{spot}
+use Rattle.memory.specs.Access.{lookupOf, written}
 use Rattle.memory.proofs.Laws.{store-done, length-written}
 use Rattle.processor.proofs.Laws.{first-blocked, second-blocked, both-stored}
 use Rattle.stores.proofs.store_both.Statement.{statement}
@@ -40,31 +39,36 @@ store-requires-2 : tie.Need-store-requires-2
 store-requires-2 c κs = search needs
 
 -- the bytes after the first store, and that there are as many
-once : (c : tie.After-store) → c .store .last .1 .1 .0 ≡ written (spot (c .before .before .before .before .before .before .before .before .before .before .args .pages .now) (count (c .before .before .before .before .before .before .before .before .before .before .args .bytes .now))) (c .before .before .before .before .before .before .before .before .before .before .args .first) (c .before .before .before .before .before .before .before .before .before .before .args .u) (c .before .before .before .before .before .before .before .before .before .before .args .bytes .now)
-once c = c .store .ensures .1 ∙ store-done (spot (c .before .before .before .before .before .before .before .before .before .before .args .pages .now) (count (c .before .before .before .before .before .before .before .before .before .before .args .bytes .now))) (c .before .before .before .before .before .before .before .before .before .before .args .bytes .now) (c .before .before .before .before .before .before .before .before .before .before .args .first) (c .before .before .before .before .before .before .before .before .before .before .args .u) (sym (c .before .before .before .before .before .before .before .probe .ensures) ∙ c .before .before .before .before .before .enum-told .given .1)
+once : (c : tie.After-store) → c .store .last .1 .1 .0 ≡ written (lookupOf (c .before .before .before .before .before .before .before .before .before .before .args .pages .now) (c .before .before .before .before .before .before .before .before .before .before .args .bytes .now)) (c .before .before .before .before .before .before .before .before .before .before .args .first) (c .before .before .before .before .before .before .before .before .before .before .args .u) (c .before .before .before .before .before .before .before .before .before .before .args .bytes .now)
+unfolding lookupOf
+once c = c .store .ensures .1 ∙ store-done (lookupOf (c .before .before .before .before .before .before .before .before .before .before .args .pages .now) (c .before .before .before .before .before .before .before .before .before .before .args .bytes .now)) (c .before .before .before .before .before .before .before .before .before .before .args .bytes .now) (c .before .before .before .before .before .before .before .before .before .before .args .first) (c .before .before .before .before .before .before .before .before .before .before .args .u) (sym (c .before .before .before .before .before .before .before .probe .ensures) ∙ c .before .before .before .before .before .enum-told .given .1)
 
-as-many : (c : tie.After-store) → count (c .store .last .1 .1 .0) ≡ count (c .before .before .before .before .before .before .before .before .before .before .args .bytes .now)
-as-many c = ap count (once c) ∙ length-written (spot (c .before .before .before .before .before .before .before .before .before .before .args .pages .now) (count (c .before .before .before .before .before .before .before .before .before .before .args .bytes .now))) (c .before .before .before .before .before .before .before .before .before .before .args .first) (c .before .before .before .before .before .before .before .before .before .before .args .u) (c .before .before .before .before .before .before .before .before .before .before .args .bytes .now)
+as-many : (c : tie.After-store) → length (c .store .last .1 .1 .0) ≡ length (c .before .before .before .before .before .before .before .before .before .before .args .bytes .now)
+unfolding lookupOf
+as-many c = ap length (once c) ∙ length-written (lookupOf (c .before .before .before .before .before .before .before .before .before .before .args .pages .now) (c .before .before .before .before .before .before .before .before .before .before .args .bytes .now)) (c .before .before .before .before .before .before .before .before .before .before .args .first) (c .before .before .before .before .before .before .before .before .before .before .args .u) (c .before .before .before .before .before .before .before .before .before .before .args .bytes .now)
 
 returns : tie.Need-returns
+unfolding lookupOf
 returns c =
-    let e = first-blocked (spot (c .before .before .before .before .before .before .before .args .pages .now) (count (c .before .before .before .before .before .before .before .args .bytes .now))) (c .before .before .before .before .before .before .before .args .bytes .now) (c .before .before .before .before .before .before .before .args .first) (c .before .before .before .before .before .before .before .args .u) (c .before .before .before .before .before .before .before .args .second) (c .before .before .before .before .before .before .before .args .v) _ (sym (c .before .before .before .before .probe .ensures) ∙ c .before .before .failure .given .1) in
+    let e = first-blocked (lookupOf (c .before .before .before .before .before .before .before .args .pages .now) (c .before .before .before .before .before .before .before .args .bytes .now)) (c .before .before .before .before .before .before .before .args .bytes .now) (c .before .before .before .before .before .before .before .args .first) (c .before .before .before .before .before .before .before .args .u) (c .before .before .before .before .before .before .before .args .second) (c .before .before .before .before .before .before .before .args .v) _ (sym (c .before .before .before .before .probe .ensures) ∙ c .before .before .failure .given .1) in
     (rw (e, c .blame .ensures), rw e)
 
 returns-2 : tie.Need-returns-2
+unfolding lookupOf
 returns-2 c =
-    let e = second-blocked (spot (c .before .before .before .before .before .before .before .before .before .before .args .pages .now) (count (c .before .before .before .before .before .before .before .before .before .before .args .bytes .now))) (c .before .before .before .before .before .before .before .before .before .before .args .bytes .now) (c .before .before .before .before .before .before .before .before .before .before .args .first) (c .before .before .before .before .before .before .before .before .before .before .args .u) (c .before .before .before .before .before .before .before .before .before .before .args .second) (c .before .before .before .before .before .before .before .before .before .before .args .v) _ (sym (c .before .before .before .before .before .before .before .probe .ensures) ∙ c .before .before .before .before .before .enum-told .given .1) (sym (c .before .before .before .before .probe2 .ensures) ∙ c .before .before .failure2 .given .1) in
+    let e = second-blocked (lookupOf (c .before .before .before .before .before .before .before .before .before .before .args .pages .now) (c .before .before .before .before .before .before .before .before .before .before .args .bytes .now)) (c .before .before .before .before .before .before .before .before .before .before .args .bytes .now) (c .before .before .before .before .before .before .before .before .before .before .args .first) (c .before .before .before .before .before .before .before .before .before .before .args .u) (c .before .before .before .before .before .before .before .before .before .before .args .second) (c .before .before .before .before .before .before .before .before .before .before .args .v) _ (sym (c .before .before .before .before .before .before .before .probe .ensures) ∙ c .before .before .before .before .before .enum-told .given .1) (sym (c .before .before .before .before .probe2 .ensures) ∙ c .before .before .failure2 .given .1) in
     (rw (e, c .blame2 .ensures), rw e)
 
 same-length : tie.Need-same-length
 same-length c = search needs
 
 returns-3 : tie.Need-returns-3
+unfolding lookupOf
 returns-3 c =
     let ready = sym (c .before .before .before .before .before .before .before .before .before .before .probe2 .ensures) ∙ c .before .before .before .before .before .before .before .before .enum-told2 .given .1 in
-    let e = both-stored (spot (c .before .before .before .before .before .before .before .before .before .before .before .before .before .before .before .before .args .pages .now) (count (c .before .before .before .before .before .before .before .before .before .before .before .before .before .before .before .before .args .bytes .now))) (c .before .before .before .before .before .before .before .before .before .before .before .before .before .before .before .before .args .bytes .now) (c .before .before .before .before .before .before .before .before .before .before .before .before .before .before .before .before .args .first) (c .before .before .before .before .before .before .before .before .before .before .before .before .before .before .before .before .args .u) (c .before .before .before .before .before .before .before .before .before .before .before .before .before .before .before .before .args .second) (c .before .before .before .before .before .before .before .before .before .before .before .before .before .before .before .before .args .v) (sym (c .before .before .before .before .before .before .before .before .before .before .before .before .before .probe .ensures) ∙ c .before .before .before .before .before .before .before .before .before .before .before .enum-told .given .1) ready in (
+    let e = both-stored (lookupOf (c .before .before .before .before .before .before .before .before .before .before .before .before .before .before .before .before .args .pages .now) (c .before .before .before .before .before .before .before .before .before .before .before .before .before .before .before .before .args .bytes .now)) (c .before .before .before .before .before .before .before .before .before .before .before .before .before .before .before .before .args .bytes .now) (c .before .before .before .before .before .before .before .before .before .before .before .before .before .before .before .before .args .first) (c .before .before .before .before .before .before .before .before .before .before .before .before .before .before .before .before .args .u) (c .before .before .before .before .before .before .before .before .before .before .before .before .before .before .before .before .args .second) (c .before .before .before .before .before .before .before .before .before .before .before .before .before .before .before .before .args .v) (sym (c .before .before .before .before .before .before .before .before .before .before .before .before .before .probe .ensures) ∙ c .before .before .before .before .before .before .before .before .before .before .before .enum-told .given .1) ready in (
       rw e,
-      rw (e, c .before .before .store2 .ensures .1, as-many (c .before .before .before .before .before .before), once (c .before .before .before .before .before .before)) (store-done (spot (c .before .before .before .before .before .before .before .before .before .before .before .before .before .before .before .before .args .pages .now) (count (c .before .before .before .before .before .before .before .before .before .before .before .before .before .before .before .before .args .bytes .now))) _ (c .before .before .before .before .before .before .before .before .before .before .before .before .before .before .before .before .args .second) (c .before .before .before .before .before .before .before .before .before .before .before .before .before .before .before .before .args .v) ready),
+      rw (e, c .before .before .store2 .ensures .1, as-many (c .before .before .before .before .before .before), once (c .before .before .before .before .before .before)) (store-done (lookupOf (c .before .before .before .before .before .before .before .before .before .before .before .before .before .before .before .before .args .pages .now) (c .before .before .before .before .before .before .before .before .before .before .before .before .before .before .before .before .args .bytes .now)) _ (c .before .before .before .before .before .before .before .before .before .before .before .before .before .before .before .before .args .second) (c .before .before .before .before .before .before .before .before .before .before .before .before .before .before .before .before .args .v) ready),
     )
 
 pub store-both-spec : {M : Type 1} → statement M

@@ -2,11 +2,9 @@
 use Prim.Native.Nat.{_%_}
 use mathlib.Core.Path.{_≡_, sym, _∙_}
 use mathlib.Core.Bool.{true}
-use lib.ListN.{length as count}
 use borrow.Author.Tests.{not-true, not-false}
 use borrow.Author.Needs.{needs}
-use Rattle.memory.specs.Access.{byteCount, probe}
-use Rattle.pages.specs.Pages.{spot}
+use Rattle.memory.specs.Access.{lookupOf, byteCount, probe}
 use Rattle.memory.proofs.Laws.{store-done, store-failed}
 use Rattle.processor.proofs.Laws.{some-bytes}
 use Rattle.wruss.specs.Wruss.{recognised, userStore}
@@ -21,7 +19,7 @@ is-recognised c = sym (c .before .recognised .ensures) ∙ not-false _ (c .if1 .
 is-aligned : (c : tie.Else3) → c .before .before .before .before .before .before .before .before .args .a % byteCount (c .before .before .before .before .before .before .before .before .args .size) ≡ 0
 is-aligned c = rw (← c .before .bytes .ensures) (c .if3 .left)
 
-tried : (c : tie.After-store) → probe (spot (c .before .before .before .before .before .before .before .before .before .before .before .args .pages .now) (count (c .before .before .before .before .before .before .before .before .before .before .before .args .bytes .now))) (userStore (c .before .before .before .before .before .before .before .before .before .before .before .args .state) (c .before .before .before .before .before .before .before .before .before .before .before .args .a) (c .before .before .before .before .before .before .before .before .before .before .before .args .size)) ≡ c .store .result
+tried : (c : tie.After-store) → probe (lookupOf (c .before .before .before .before .before .before .before .before .before .before .before .args .pages .now) (c .before .before .before .before .before .before .before .before .before .before .before .args .bytes .now)) (userStore (c .before .before .before .before .before .before .before .before .before .before .before .args .state) (c .before .before .before .before .before .before .before .before .before .before .before .args .a) (c .before .before .before .before .before .before .before .before .before .before .before .args .size)) ≡ c .store .result
 tried c = rw (← c .before .before .user-store .ensures) (sym (c .store .ensures .0))
 
 recognised-requires : tie.Need-recognised-requires

@@ -4,17 +4,17 @@ use mathlib.Core.Path.{_≡_, refl, sym, _∙_}
 use native.Mathlib.Omega.{arith}
 use lib.ListN.{length}
 use borrow.Author.Needs.{needs}
+use Rattle.memory.specs.Access.{lookupOf}
 use Rattle.replay.proofs.runs.walk.Tie as tie
 use Rattle.processor.specs.Outcomes.{stepOf}
 use Rattle.replay.specs.Run.{runFrom}
 use Rattle.perform.specs.Codes.{codes}
 use Rattle.instructions.specs.Instruction.{instructionAt}
-use Rattle.pages.specs.Pages.{spot}
 use Rattle.replay.proofs.RunLaws.{goes-on, ends, at-end}
 use Rattle.replay.proofs.runs.walk.Statement.{statement}
 
 abbrev Inv-loop : tie.InvT-loop
-Inv-loop pages bytes₀ words listed state₀ k₀ bytes state k = (runFrom codes (spot pages (length bytes₀)) (instructionAt words) 0 listed state₀ bytes₀ ≡ runFrom codes (spot pages (length bytes₀)) (instructionAt words) k (listed - k) state bytes) × (length bytes ≡ length bytes₀)
+Inv-loop pages bytes₀ words listed state₀ k₀ bytes state k = (runFrom codes (lookupOf pages bytes₀) (instructionAt words) 0 listed state₀ bytes₀ ≡ runFrom codes (lookupOf pages bytes₀) (instructionAt words) k (listed - k) state bytes) × (length bytes ≡ length bytes₀)
 
 abbrev μ-loop : tie.MeasureT-loop
 μ-loop pages bytes₀ words listed state₀ k₀ bytes state k = listed - k

@@ -1,7 +1,7 @@
 -- `Access::load` meets its contract: from one page, from two, or not at all. Assumes nothing.
 use mathlib.Core.Path.{sym, _∙_}
 use borrow.Author.Needs.{needs}
-use Rattle.memory.specs.Access.{load, value}
+use Rattle.memory.specs.Access.{lookupOf, load, value}
 use Rattle.memory.proofs.Answers.{at-most-eight, load-failed}
 use Rattle.memory.proofs.OnePage.{told, on-lent-page, load-placed}
 use Rattle.memory.proofs.access.Access.load.Statement.{statement}
@@ -29,13 +29,15 @@ enum-known-failure : tie.Need-enum-known-failure
 enum-known-failure c = search needs
 
 returns : tie.Need-returns
+unfolding lookupOf
 returns c = rw (load-placed _ _ _ _ (told _ _ _ (sym (c .before .before .place .given .1) ∙ c .before .before .before .before .locate .ensures)) _, c .load-within .ensures)
 
 returns-2 : tie.Need-returns-2
-unfolding load value
+unfolding lookupOf load value
 returns-2 c = rw (told _ _ _ (sym (c .before .before .enum-told .given .1) ∙ c .before .before .before .before .locate .ensures), c .number .ensures, c .before .bytes .ensures)
 
 returns-3 : tie.Need-returns-3
+unfolding lookupOf
 returns-3 c = sym (load-failed _ _ _ _ (told _ _ _ (sym (c .before .failure .given .1) ∙ c .before .before .before .locate .ensures)))
 
 pub load-spec : {M : Type 1} → statement M

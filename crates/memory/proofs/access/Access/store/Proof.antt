@@ -1,7 +1,7 @@
 -- `Access::store` meets its contract: on one page, on two, or every byte left as it was. Assumes nothing.
 use mathlib.Core.Path.{sym, _∙_}
 use borrow.Author.Needs.{needs}
-use Rattle.memory.specs.Access.{written}
+use Rattle.memory.specs.Access.{lookupOf, written}
 use Rattle.memory.proofs.Answers.{store-done, store-failed}
 use Rattle.memory.proofs.OnePage.{told, on-lent-page, store-placed}
 use Rattle.memory.proofs.access.Access.store.Statement.{statement}
@@ -32,6 +32,7 @@ same-length : tie.Need-same-length
 same-length c = search needs
 
 returns : tie.Need-returns
+unfolding lookupOf
 returns c =
     let placed = told _ _ _ (sym (c .before .before .before .before .before .place .given .1) ∙ c .before .before .before .before .before .before .before .locate .ensures) in
     (sym (placed .ready), c .before .before .store-within .ensures ∙ sym (store-placed _ _ _ _ placed _ _))
@@ -40,12 +41,13 @@ same-length-2 : tie.Need-same-length-2
 same-length-2 c = search needs
 
 returns-2 : tie.Need-returns-2
-unfolding written
+unfolding lookupOf written
 returns-2 c =
     let ready = told _ _ _ (sym (c .before .before .before .before .before .enum-told .given .1) ∙ c .before .before .before .before .before .before .before .locate .ensures) in
     (sym ready, rw (store-done _ _ _ _ ready, ← c .before .before .before .bytes2 .ensures) (c .before .before .write .ensures))
 
 returns-3 : tie.Need-returns-3
+unfolding lookupOf
 returns-3 c =
     let failed = told _ _ _ (sym (c .before .failure .given .1) ∙ c .before .before .before .locate .ensures) in
     (sym failed, sym (store-failed _ _ _ _ _ failed))

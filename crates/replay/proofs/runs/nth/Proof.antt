@@ -1,9 +1,9 @@
 -- `nth` meets its contract. Assumes nothing.
 use mathlib.Core.Path.{refl}
 use borrow.Author.Needs.{needs}
-use Rattle.instructions.proofs.instruction.nth.Tie as tie
+use Rattle.replay.proofs.runs.nth.Tie as tie
 use Rattle.instructions.specs.Instruction.{instructionAt}
-use Rattle.instructions.proofs.instruction.nth.Statement.{statement}
+use Rattle.replay.proofs.runs.nth.Statement.{statement}
 
 mul-at : tie.Need-mul-at
 mul-at c = search needs
