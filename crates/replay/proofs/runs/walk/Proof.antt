@@ -5,6 +5,7 @@ use native.Mathlib.Omega.{arith}
 use lib.ListN.{length}
 use borrow.Author.Needs.{needs}
 use Rattle.memory.specs.Access.{lookupOf}
+use Rattle.memory.proofs.Laws.{lookup-kept}
 use Rattle.replay.proofs.runs.walk.Tie as tie
 use Rattle.processor.specs.Outcomes.{stepOf}
 use Rattle.replay.specs.Run.{runFrom}
@@ -14,13 +15,13 @@ use Rattle.replay.proofs.RunLaws.{goes-on, ends, at-end}
 use Rattle.replay.proofs.runs.walk.Statement.{statement}
 
 abbrev Inv-loop : tie.InvT-loop
-Inv-loop pages bytes₀ words listed state₀ k₀ bytes state k = (runFrom codes (lookupOf pages bytes₀) (instructionAt words) 0 listed state₀ bytes₀ ≡ runFrom codes (lookupOf pages bytes₀) (instructionAt words) k (listed - k) state bytes) × (length bytes ≡ length bytes₀)
+Inv-loop pages bytes₀ words listed state₀ k₀ bytes state k = (runFrom codes (lookupOf pages bytes₀) (instructionAt words) 0 listed state₀ bytes₀ ≡ runFrom codes (lookupOf pages bytes₀) (instructionAt words) k (listed - k) state bytes) × (length bytes ≡ length bytes₀) × (lookupOf pages bytes ≡ lookupOf pages bytes₀)
 
 abbrev μ-loop : tie.MeasureT-loop
 μ-loop pages bytes₀ words listed state₀ k₀ bytes state k = listed - k
 
 loop-holds : tie.Need-loop-holds Inv-loop μ-loop
-loop-holds c = let whole : (n : ℕ) → n - 0 ≡ n = λ n. omega arith in (rw (whole (length (c .before .before .before .args .words .now) / 4)), refl)
+loop-holds c = let whole : (n : ℕ) → n - 0 ≡ n = λ n. omega arith in (rw (whole (length (c .before .before .before .args .words .now) / 4)), refl, refl)
 
 nth-requires : tie.Need-nth-requires Inv-loop μ-loop
 nth-requires c κs = let h = c .loop-test .taken in omega arith
@@ -38,7 +39,7 @@ loop-less : tie.Need-loop-less Inv-loop μ-loop
 loop-less c = let h = c .before .before .before .before .before .before .before .before .loop-test .taken in omega arith
 
 loop-again : tie.Need-loop-again Inv-loop μ-loop
-loop-again c = let inv = c .before .before .before .before .before .before .before .before .before .loop .inv in (inv .0 ∙ goes-on _ _ _ _ _ _ _ (c .before .before .before .before .before .before .before .before .loop-test .taken) (stepOf (c .before .before .before .before .before .perform .result) (c .before .before .before .before .before .perform .last .1 .1 .1 .0)) (rw (← inv .1, ← c .before .before .before .before .before .before .before .nth .ensures) (sym (c .before .before .before .before .before .perform .ensures))) (c .enum-told .given .1), c .before .before .before .before .bytes .given ∙ inv .1)
+loop-again c = let inv = c .before .before .before .before .before .before .before .before .before .loop .inv in (inv .0 ∙ goes-on _ _ _ _ _ _ _ (c .before .before .before .before .before .before .before .before .loop-test .taken) (stepOf (c .before .before .before .before .before .perform .result) (c .before .before .before .before .before .perform .last .1 .1 .1 .0)) (rw (← inv .2, ← c .before .before .before .before .before .before .before .nth .ensures) (sym (c .before .before .before .before .before .perform .ensures))) (c .enum-told .given .1), c .before .before .before .before .bytes .given ∙ inv .1, lookup-kept _ _ _ (c .before .before .before .before .bytes .given ∙ inv .1))
 
 enum-known-answer : tie.Need-enum-known-answer Inv-loop μ-loop
 enum-known-answer c = search needs
@@ -47,7 +48,7 @@ same-length : tie.Need-same-length Inv-loop μ-loop
 same-length c = c .before .before .before .before .before .bytes .given ∙ c .before .before .before .before .before .before .before .before .before .before .loop .inv .1
 
 returns : tie.Need-returns Inv-loop μ-loop
-returns c = let inv = c .before .before .before .before .before .before .before .before .before .before .loop .inv in rw (← c .before .answer .given .1) (sym (inv .0 ∙ ends _ _ _ _ _ _ _ (c .before .before .before .before .before .before .before .before .before .loop-test .taken) (stepOf (c .before .before .before .before .before .before .perform .result) (c .before .before .before .before .before .before .perform .last .1 .1 .1 .0)) (rw (← inv .1, ← c .before .before .before .before .before .before .before .before .nth .ensures) (sym (c .before .before .before .before .before .before .perform .ensures))) (λ more end. rw (c .before .answer .given .1))))
+returns c = let inv = c .before .before .before .before .before .before .before .before .before .before .loop .inv in rw (← c .before .answer .given .1) (sym (inv .0 ∙ ends _ _ _ _ _ _ _ (c .before .before .before .before .before .before .before .before .before .loop-test .taken) (stepOf (c .before .before .before .before .before .before .perform .result) (c .before .before .before .before .before .before .perform .last .1 .1 .1 .0)) (rw (← inv .2, ← c .before .before .before .before .before .before .before .before .nth .ensures) (sym (c .before .before .before .before .before .before .perform .ensures))) (λ more end. rw (c .before .answer .given .1))))
 
 enum-known-answer-2 : tie.Need-enum-known-answer-2 Inv-loop μ-loop
 enum-known-answer-2 c = search needs
@@ -56,7 +57,7 @@ same-length-2 : tie.Need-same-length-2 Inv-loop μ-loop
 same-length-2 c = c .before .before .before .before .before .bytes .given ∙ c .before .before .before .before .before .before .before .before .before .before .loop .inv .1
 
 returns-2 : tie.Need-returns-2 Inv-loop μ-loop
-returns-2 c = let inv = c .before .before .before .before .before .before .before .before .before .before .loop .inv in rw (← c .before .answer2 .given .1) (sym (inv .0 ∙ ends _ _ _ _ _ _ _ (c .before .before .before .before .before .before .before .before .before .loop-test .taken) (stepOf (c .before .before .before .before .before .before .perform .result) (c .before .before .before .before .before .before .perform .last .1 .1 .1 .0)) (rw (← inv .1, ← c .before .before .before .before .before .before .before .before .nth .ensures) (sym (c .before .before .before .before .before .before .perform .ensures))) (λ more end. rw (c .before .answer2 .given .1))))
+returns-2 c = let inv = c .before .before .before .before .before .before .before .before .before .before .loop .inv in rw (← c .before .answer2 .given .1) (sym (inv .0 ∙ ends _ _ _ _ _ _ _ (c .before .before .before .before .before .before .before .before .before .loop-test .taken) (stepOf (c .before .before .before .before .before .before .perform .result) (c .before .before .before .before .before .before .perform .last .1 .1 .1 .0)) (rw (← inv .2, ← c .before .before .before .before .before .before .before .before .nth .ensures) (sym (c .before .before .before .before .before .before .perform .ensures))) (λ more end. rw (c .before .answer2 .given .1))))
 
 same-length-3 : tie.Need-same-length-3 Inv-loop μ-loop
 same-length-3 c = c .before .loop .inv .1
