@@ -96,7 +96,7 @@ module _ (pages₁ lent₁ pages₂ lent₂ : List ℕ) (valid₁ : listing page
     next-answer =
         let now = same-after pages₁ lent₁ pages₂ lent₂ valid₁ valid₂ there set s words (r₁ .count) (whole pages₁ lent₁ pages₂ lent₂ valid₁ valid₂ there set s words r₁ r₂ c₁ c₂) in
         rw (now .state)
-        (same-answer look₁ look₂ lent₁ lent₂ (lookup-places pages₁ (length lent₁)) (lookup-places pages₂ (length lent₂)) tried set (instructionAt words (r₁ .count)) _ _ _ (now .memory))
+        (same-answer look₁ look₂ lent₁ lent₂ (lookup-places pages₁ lent₁) (lookup-places pages₂ lent₂) tried set (instructionAt words (r₁ .count)) _ _ _ (now .memory))
 
     -- the first ends with a page fault: the second ends there too, with the same one
     at-fault : isPageFault (r₁ .answer) ≡ true → SameEnd pages₁ pages₂ r₁ r₂

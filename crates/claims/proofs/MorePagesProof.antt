@@ -5,10 +5,11 @@ use mathlib.Core.List.{List}
 use mathlib.Core.Path.{_≡_, refl, sym, _∙_}
 use native.Mathlib.Omega.{arith}
 use lib.ListN.{length}
+use Rattle.memory.specs.Access.{lookupOf}
 use Rattle.memory.specs.Extends.{HoldsPages}
 use Rattle.pages.specs.Pages.{Lookup, listing}
 use Rattle.pages.specs.declared.pages.Listing.the-variants.{Valid}
-use Rattle.memory.proofs.Laws.{lookup-places, pages-extend, extends-pages}
+use Rattle.memory.proofs.Laws.{lookup-kept, lookup-places, pages-extend, extends-pages}
 use Rattle.processor.specs.Prog.{Step}
 use Rattle.processor.specs.State.{inRange}
 use Rattle.answers.specs.declared.answer.Answer.{Answer}
@@ -42,7 +43,7 @@ module _ (pages₁ lent₁ pages₂ lent₂ : List ℕ) (valid₁ : listing page
   same-memory : (state₁ : State) (bytes₁ : List ℕ) (state₂ : State) (bytes₂ : List ℕ) → state₂ ≡ state₁ → Beside look₁ look₂ lent₁ lent₂ bytes₁ bytes₂
       → SameMemory pages₁ pages₂ lent₂ state₁ bytes₁ state₂ bytes₂
   same-memory state₁ bytes₁ state₂ bytes₂ same b =
-      let both = extends-pages pages₁ lent₁ bytes₁ pages₂ lent₂ bytes₂ (rw (b .kept₁) valid₁) (rw (b .kept₂) valid₂) (b .kept₂) holds (rw (b .kept₁, b .kept₂) (b .extends)) in
+      let both = extends-pages pages₁ lent₁ bytes₁ pages₂ lent₂ bytes₂ (rw (b .kept₁) valid₁) (rw (b .kept₂) valid₂) (b .kept₂) holds (rw (lookup-kept pages₁ lent₁ bytes₁ (b .kept₁), lookup-kept pages₂ lent₂ bytes₂ (b .kept₂)) (b .extends)) in
       record { registers = same; old = both .0; added = both .1 }
 
   -- both lists are valid, so what is tested before any step has one result
@@ -60,7 +61,7 @@ module _ (pages₁ lent₁ pages₂ lent₂ : List ℕ) (valid₁ : listing page
     -- up to a page fault of the first
     pub same-after : (k : ℕ) → ((j : ℕ) → j < k → isPageFault (after₁ (suc j) .answer) ≡ false) → StepsAlike look₁ look₂ lent₁ lent₂ (after₁ k) (after₂ k)
     same-after k whole =
-        alike look₁ look₂ lent₁ lent₂ (lookup-places pages₁ (length lent₁)) (lookup-places pages₂ (length lent₂)) set (instructionAt words) s
+        alike look₁ look₂ lent₁ lent₂ (lookup-places pages₁ lent₁) (lookup-places pages₂ lent₂) set (instructionAt words) s
         record { extends = pages-extend pages₁ lent₁ pages₂ lent₂ valid₂ holds; kept₁ = refl; kept₂ = refl } k whole
 
     -- what is claimed, of any two runs
