@@ -9,7 +9,8 @@ use Rattle.memory.specs.declared.access.Access.{Access}
 use Rattle.memory.specs.declared.access.Failure.{Failure}
 use Rattle.memory.specs.declared.access.Reach.the-variants.{Ready, Blocked}
 use Rattle.answers.specs.Answer.{ss, gp}
-use Rattle.processor.specs.State.{minus, next, withIp, withSp, withSsp}
+use Rattle.processor.specs.State.{minus, next}
+use Rattle.processor.specs.Layout.{withIp, withSp, withSsp}
 use Rattle.processor.specs.Accesses.{shadow, ordinary}
 use Rattle.answers.specs.Blame.{blame}
 use Rattle.processor.specs.Outcomes.{completed, faulted, stepOf}

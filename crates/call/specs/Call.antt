@@ -8,7 +8,8 @@ use Rattle.pages.specs.Address.{canonical}
 use Rattle.memory.specs.declared.access.Size.{Size}
 use Rattle.memory.specs.declared.access.Size.the-variants.{Four, Eight}
 use Rattle.answers.specs.Answer.{ss, gp}
-use Rattle.processor.specs.State.{isLong, enabled, plus, minus, next, withIp, withSp, withSsp}
+use Rattle.processor.specs.State.{isLong, enabled, plus, minus, next}
+use Rattle.processor.specs.Layout.{withIp, withSp, withSsp}
 use Rattle.processor.specs.Accesses.{shadow, ordinary}
 use Rattle.processor.specs.Prog.{Prog, done, _>>=_, _>>_, store, unless, onlyIf}
 use Rattle.processor.specs.declared.state.State.{State}

@@ -15,7 +15,8 @@ use Rattle.processor.specs.declared.state.State.{State}
 use Rattle.saveprevssp.specs.Saveprevssp.{carry}
 use Rattle.call.specs.Call.{pushed, displaced, pushesFrame}
 use Rattle.instructions.specs.Instruction.{oneOf, isQuad, sizeOf, wordsFit, lengthFits, narrow, modeFits, wellFormed}
-use Rattle.instructions.specs.Permission.{writeBit, withoutWrite, withCet, hidden, shown}
+use Rattle.instructions.specs.Permission.{writeBit, withoutWrite, hidden, shown}
+use Rattle.processor.specs.Layout.{withCet}
 use Rattle.perform.specs.Exec.{operationOf, exec, perform}
 use Rattle.perform.specs.Codes.{target, framed, operationFrom9, operation, codes}
 use Rattle.instructions.specs.declared.instruction.Instruction.{Instruction}

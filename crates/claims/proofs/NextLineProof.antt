@@ -15,7 +15,8 @@ use Rattle.memory.specs.declared.access.Reach.the-variants.{Ready, Blocked}
 use Rattle.processor.specs.Accesses.{ordinary}
 use Rattle.answers.specs.Answer.{ss, gp}
 use Rattle.processor.specs.Prog.{Prog, done, _>>=_, _>>_, store, unless, Result, ended, onReach, interp, Step, settle, operate}
-use Rattle.processor.specs.State.{enabled, plus, minus, next, withIp, withSp}
+use Rattle.processor.specs.State.{enabled, plus, minus, next}
+use Rattle.processor.specs.Layout.{withIp, withSp}
 use Rattle.answers.specs.declared.answer.Refusal.the-variants.{Instruction as BadForm}
 use Rattle.processor.specs.declared.state.State.{State}
 use Rattle.call.specs.Call.{displacement, moved, relative, displaced, inCode, pushed, runsPast, pushesFrame, call}

@@ -9,7 +9,8 @@ use Rattle.memory.specs.Access.{byteCount}
 use Rattle.memory.specs.declared.access.Size.{Size}
 use Rattle.memory.specs.declared.access.Size.the-variants.{Four, Eight}
 use Rattle.answers.specs.Answer.{ud, ss, gp, cpNearRet, cpRstorssp}
-use Rattle.processor.specs.State.{isLong, widthOf, enabled, usable, plus, minus, next, withIp}
+use Rattle.processor.specs.State.{isLong, widthOf, enabled, usable, plus, minus, next}
+use Rattle.processor.specs.Layout.{withIp}
 use Rattle.processor.specs.Prog.{done}
 use Rattle.processor.specs.declared.state.State.{State}
 use Rattle.incssp.specs.Incssp.{incssp}

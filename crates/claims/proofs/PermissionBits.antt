@@ -7,7 +7,8 @@ use lib.Dec.{eqb}
 use borrow.Author.Tests.{eqb-true, eq-eqb}
 use Rattle.processor.specs.State.{userMode, enabled, usable, permitted, inRange}
 use Rattle.processor.specs.declared.state.State.{State}
-use Rattle.instructions.specs.Permission.{writeBit, withoutWrite, withCet, hidden, shown}
+use Rattle.instructions.specs.Permission.{writeBit, withoutWrite, hidden, shown}
+use Rattle.processor.specs.Layout.{withCet}
 use Rattle.claims.specs.MoreRights.{switchedOn, granted}
 
 -- ---- one CET register

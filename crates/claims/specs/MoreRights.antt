@@ -12,7 +12,8 @@ use Rattle.processor.specs.State.{usable, permitted}
 use Rattle.answers.specs.declared.answer.Answer.{Answer}
 use Rattle.processor.specs.declared.state.State.{State}
 use Rattle.instructions.specs.Instruction.{instructionAt, isWrss}
-use Rattle.instructions.specs.Permission.{withoutWrite, withCet}
+use Rattle.instructions.specs.Permission.{withoutWrite}
+use Rattle.processor.specs.Layout.{withCet}
 use Rattle.perform.specs.Exec.{InstructionSet}
 use Rattle.replay.specs.Run.{Run, run, after}
 use Rattle.instructions.specs.declared.instruction.Instruction.{Instruction}

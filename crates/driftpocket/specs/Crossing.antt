@@ -9,20 +9,13 @@ use Rattle.answers.specs.declared.answer.Answer.{Answer}
 use Rattle.answers.specs.declared.answer.Answer.the-variants.{Completed, Refused, Faulted}
 use Rattle.answers.specs.declared.answer.Report.{Report}
 use Rattle.processor.specs.declared.state.State.{State}
-use Rattle.instructions.specs.Layout.{stateOf}
+use Rattle.processor.specs.Layout.{fields, stateOf, wordsOf}
 use Rattle.perform.specs.Codes.{codes}
 use Rattle.replay.specs.Run.{check, Run, run}
 use Rattle.replay.specs.declared.steps.Tested.{Tested}
 use Rattle.replay.specs.declared.steps.Tested.the-variants.{Passed, Failed}
 
 -- ---- layout
-
--- the fields of a state, in the order of the rules; `stateOf` reads them
-abbrev pub fields : ℕ
-fields = 10
-
-abbrev pub stateWords : State → List ℕ
-stateWords s = s .mode ∷ s .cpl ∷ s .cet ∷ s .ucet ∷ s .scet ∷ s .ip ∷ s .sp ∷ s .ssp ∷ s .flags ∷ s .limit ∷ []
 
 -- the words of a report: count, refusal, vector, error code, address
 abbrev pub reportLength : ℕ
@@ -55,7 +48,7 @@ abbrev pub answered : List ℕ → List ℕ → List ℕ → ℕ → Answer → 
 answered state bytes report count answer = record { number = numberOf answer; state = state; bytes = bytes; report = over (reportWords count (reportOf answer)) report }
 
 abbrev pub ran : List ℕ → Run → Crossing
-ran report r = answered (stateWords (r .state)) (r .bytes) report (r .count) (r .answer)
+ran report r = answered (wordsOf (r .state)) (r .bytes) report (r .count) (r .answer)
 
 -- what is tested before any step, as an answer
 abbrev pub testedAs : Tested → Answer

@@ -4,15 +4,14 @@ ghost use Prim.Native.Nat.{_≤_};
 ghost use mathlib.Core.Bool.{false};
 ghost use mathlib.Core.Path.{_≡_};
 ghost use lib.ListN.{length};
-ghost use Rattle.driftpocket.specs.Crossing.{stateWords, reportWords, over, numberOf as numberFor, testedAs, answered, crossed};
+ghost use Rattle.driftpocket.specs.Crossing.{reportWords, over, numberOf as numberFor, testedAs, answered, crossed};
+ghost use Rattle.processor.specs.Layout.{fields, wordsOf};
 ghost use Rattle.answers.specs.Answer.{reportOf};
 ghost use Rattle.replay.specs.Run.{check as checkOf};
 use processor::Answer;
+use processor::FIELDS;
 use processor::State;
 use replay::Tested;
-
-// How many fields a state has.
-const FIELDS: usize = 10;
 
 // How many words a report has.
 const REPORT: usize = 5;
@@ -33,21 +32,10 @@ fn copy(words: &[u64], buffer: &mut [u64])
 }
 
 fn write_state(state: State, buffer: &mut [u64])
-    requires { ⌜ 10 ≤ length (now buffer) ⌝ }
-    ensures { λ _. ⌜ now (buffer .exit) ≡ over (stateWords state) (now (buffer .entry)) ⌝ }
+    requires { ⌜ fields ≤ length (now buffer) ⌝ }
+    ensures { λ _. ⌜ now (buffer .exit) ≡ over (wordsOf state) (now (buffer .entry)) ⌝ }
 {
-    let words = [
-        state.mode,
-        state.cpl,
-        state.cet,
-        state.ucet,
-        state.scet,
-        state.ip,
-        state.sp,
-        state.ssp,
-        state.flags,
-        state.limit,
-    ];
+    let words = state.words();
     copy(&words, buffer);
 }
 
@@ -110,7 +98,7 @@ pub extern "C" fn driftpocket_run(
         write_report(0, answer, report);
         return number(answer);
     }
-    let replayed = replay::run(replay::state_of(state), pages, bytes, words);
+    let replayed = replay::run(processor::state_of(state), pages, bytes, words);
     let answer = replayed.answer;
     write_state(replayed.state, state);
     write_report(replayed.count, answer, report);

@@ -12,7 +12,8 @@ use Rattle.memory.specs.declared.access.Failure.{Failure}
 use Rattle.memory.specs.declared.access.Size.{Size}
 use Rattle.memory.specs.declared.load.Loaded.the-variants.{Value, Blocked as Unloaded}
 use Rattle.answers.specs.Answer.{ud}
-use Rattle.processor.specs.State.{usable, plus, next, withSsp}
+use Rattle.processor.specs.State.{usable, plus, next}
+use Rattle.processor.specs.Layout.{withSsp}
 use Rattle.processor.specs.Accesses.{shadow}
 use Rattle.answers.specs.Blame.{blame}
 use Rattle.processor.specs.Outcomes.{completed, faulted, stepOf}

@@ -5,7 +5,8 @@ use lib.Dec.{ltb}
 use Rattle.memory.specs.Access.{byteCount}
 use Rattle.memory.specs.declared.access.Size.{Size}
 use Rattle.answers.specs.Answer.{ud}
-use Rattle.processor.specs.State.{usable, plus, next, withIp, withSsp}
+use Rattle.processor.specs.State.{usable, plus, next}
+use Rattle.processor.specs.Layout.{withIp, withSsp}
 use Rattle.processor.specs.Accesses.{shadow}
 use Rattle.processor.specs.Prog.{Prog, done, _>>=_, _>>_, touch, unless, onlyIf}
 use Rattle.processor.specs.declared.state.State.{State}

@@ -11,14 +11,7 @@ use processor::State;
 use processor::Vector;
 
 // `size` is that of an element, `b` the count register, of which the low 8 bits count.
-pub fn execute(
-    state: State,
-    pages: &[u64],
-    bytes: &[u8],
-    size: Size,
-    b: u64,
-    span: u64,
-) -> Outcome
+pub fn execute(state: State, pages: &[u64], bytes: &[u8], size: Size, b: u64, span: u64) -> Outcome
     ensures { λ r. ⌜ stepOf r (now (bytes .entry)) ≡ operate (lookupOf (now (pages .entry)) (now (bytes .entry))) (incsspOf size b span state) state (now (bytes .entry)) ⌝ }
 {
     if !state.usable() {
@@ -26,18 +19,18 @@ pub fn execute(
     }
     let range = b % 256;
     let n = size.bytes();
-    let moved = state.with_ssp(state.plus(state.ssp, n * range));
+    let ssp = state.plus(state.ssp, n * range);
     let first = state.shadow(state.ssp, size, false);
     match first.load(pages, bytes) {
         Loaded::Blocked(failure) => state.fail(processor::blame(first, failure)),
         Loaded::Value(_) => {
             if range == 0 {
-                return moved.complete(state.next(span));
+                return state.shift(ssp, state.next(span));
             }
             let last = state.shadow(state.plus(state.ssp, n * (range - 1)), size, false);
             match last.load(pages, bytes) {
                 Loaded::Blocked(failure) => state.fail(processor::blame(last, failure)),
-                Loaded::Value(_) => moved.complete(state.next(span)),
+                Loaded::Value(_) => state.shift(ssp, state.next(span)),
             }
         }
     }

@@ -1,3 +1,2 @@
 pub mod Instruction
-pub mod Layout
 pub mod Permission

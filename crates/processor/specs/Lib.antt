@@ -6,6 +6,7 @@
 -- `λ v.` is a function of v. `abbrev` and `unfoldable` only tell the prover when to look inside. A contract that says
 -- `stepOf r (bytes at exit) ≡ operate (where addresses lead) (the program) state (bytes at entry)` says: answer, registers and bytes are
 -- those that the program gives.
+pub mod Layout
 pub mod State
 pub mod Accesses
 pub mod Outcomes

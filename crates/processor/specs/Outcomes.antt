@@ -2,9 +2,10 @@
 use Prim.Native.Nat.{ℕ}
 use mathlib.Core.List.{List}
 use Rattle.processor.specs.Prog.{Step}
-use Rattle.processor.specs.State.{withIp}
-use Rattle.answers.specs.declared.answer.Answer.the-variants.{Completed, Faulted}
+use Rattle.processor.specs.Layout.{withIp}
+use Rattle.answers.specs.declared.answer.Answer.the-variants.{Completed, Refused, Faulted}
 use Rattle.answers.specs.declared.answer.Fault.{Fault}
+use Rattle.answers.specs.declared.answer.Refusal.{Refusal}
 use Rattle.processor.specs.declared.outcome.Outcome.{Outcome}
 use Rattle.processor.specs.declared.state.State.{State}
 
@@ -15,6 +16,10 @@ completed s ip = record { answer = Completed; state = withIp s ip }
 -- a fault leaves the state alone
 abbrev pub faulted : State → Fault → Outcome
 faulted s fault = record { answer = Faulted fault; state = s }
+
+-- so does a refusal
+abbrev pub refusedWith : State → Refusal → Outcome
+refusedWith s refusal = record { answer = Refused refusal; state = s }
 
 -- an outcome with the bytes that are left, as one step
 abbrev pub stepOf : Outcome → List ℕ → Step

@@ -1,4 +1,4 @@
--- What the rules read off a state, and the state with a register changed (docs/RULES.md, "State"). Assumes nothing.
+-- What the rules read off a state (docs/RULES.md, "State"). Assumes nothing.
 use Prim.Native.Nat.{ℕ, _/_, _%_, _^_}
 use mathlib.Core.Bool.{Bool, true, false, not, cond, _&&_, _||_}
 use lib.Dec.{eqb, ltb, leb}
@@ -40,7 +40,7 @@ userMode s = eqb (s .cpl) 3
 abbrev pub register : State → ℕ
 register s = cond (userMode s) (s .ucet) (s .scet)
 
--- CR4.CET and SH_STK_EN of this CPL
+-- the rules' "enabled": CR4.CET and SH_STK_EN of this CPL
 unfoldable pub enabled : State → Bool
 enabled s = eqb (s .cet) 1 && eqb (register s % 2) 1
 
@@ -52,32 +52,20 @@ usable s = not (eqb (s .mode) 0) && enabled s
 unfoldable pub permitted : State → Bool
 permitted s = eqb (register s / 2 % 2) 1
 
--- ---- refusal 5
+-- ---- refusal 5, in parts
 
--- outside mode 2, IP, SP and SSP are below 2^32
-abbrev pub pointersFit : State → Bool
-pointersFit s = isLong s || (ltb (s .ip) (2 ^ 32) && (ltb (s .sp) (2 ^ 32) && ltb (s .ssp) (2 ^ 32)))
+-- what each of these may be, whatever the others are
+unfoldable pub fixedFit : State → Bool
+fixedFit s = leb (s .mode) 2 && (leb (s .cpl) 3 && (leb (s .cet) 1 && ltb (s .limit) (2 ^ 32)))
+
+-- a CET register, U_CET or S_CET: any number
+unfoldable pub cetFits : ℕ → Bool
+cetFits register = true
+
+-- SSP is a multiple of 4; outside mode 2, IP, SP and SSP are below 2^32
+unfoldable pub pointersFit : State → Bool
+pointersFit s = eqb (s .ssp % 4) 0 && (isLong s || (ltb (s .ip) (2 ^ 32) && (ltb (s .sp) (2 ^ 32) && ltb (s .ssp) (2 ^ 32))))
 
 -- every field is in its range
 unfoldable pub inRange : State → Bool
-inRange s =
-    leb (s .mode) 2
-    && (leb (s .cpl) 3
-    && (leb (s .cet) 1
-    && (eqb (s .ssp % 4) 0
-    && (ltb (s .limit) (2 ^ 32)
-    && pointersFit s))))
-
--- ---- a register changed
-
-abbrev pub withIp : State → ℕ → State
-withIp s ip = record { mode = s .mode; cpl = s .cpl; cet = s .cet; ucet = s .ucet; scet = s .scet; ip = ip; sp = s .sp; ssp = s .ssp; flags = s .flags; limit = s .limit }
-
-abbrev pub withSp : State → ℕ → State
-withSp s sp = record { mode = s .mode; cpl = s .cpl; cet = s .cet; ucet = s .ucet; scet = s .scet; ip = s .ip; sp = sp; ssp = s .ssp; flags = s .flags; limit = s .limit }
-
-abbrev pub withSsp : State → ℕ → State
-withSsp s ssp = record { mode = s .mode; cpl = s .cpl; cet = s .cet; ucet = s .ucet; scet = s .scet; ip = s .ip; sp = s .sp; ssp = ssp; flags = s .flags; limit = s .limit }
-
-abbrev pub withFlags : State → ℕ → State
-withFlags s flags = record { mode = s .mode; cpl = s .cpl; cet = s .cet; ucet = s .ucet; scet = s .scet; ip = s .ip; sp = s .sp; ssp = s .ssp; flags = flags; limit = s .limit }
+inRange s = fixedFit s && ((cetFits (s .ucet) && cetFits (s .scet)) && pointersFit s)

@@ -1,4 +1,5 @@
 // The processor: its state, and what its operations hand back.
+mod layout;
 mod outcome;
 mod state;
 
@@ -10,5 +11,7 @@ pub use answers::Vector;
 pub use answers::blame;
 pub use answers::control_fault;
 pub use answers::fault;
+pub use layout::FIELDS;
+pub use layout::state_of;
 pub use outcome::Outcome;
 pub use state::State;

@@ -1,6 +1,6 @@
 // The processor's state: ten numbers, and what the rules read off them.
 ghost use mathlib.Core.Path.{_≡_};
-ghost use Rattle.processor.specs.State.{isLong, longBit, widthOf, plus as plusOf, minus as minusOf, userMode, register as registerOf, enabled as enabledOf, usable as usableOf, permitted as permittedOf, next as nextOf, pointersFit, inRange as inRangeOf, withSp, withSsp, withFlags};
+ghost use Rattle.processor.specs.State.{isLong, longBit, widthOf, plus as plusOf, minus as minusOf, userMode, register as registerOf, enabled as enabledOf, usable as usableOf, permitted as permittedOf, next as nextOf, fixedFit, cetFits, pointersFit, inRange as inRangeOf};
 ghost use Rattle.processor.specs.Accesses.{accessOf, shadow as shadowOf, ordinary as ordinaryOf};
 use memory::Access;
 use memory::Kind;
@@ -24,6 +24,13 @@ pub struct State {
     pub flags: u64,
     // The code segment's limit.
     pub limit: u64,
+}
+
+// Whether a CET register holds what it may: any number.
+fn cet_fits(register: u64) -> bool
+    ensures { λ r. ⌜ r ≡ cetFits register ⌝ }
+{
+    true
 }
 
 impl State {
@@ -113,27 +120,6 @@ impl State {
         self.plus(self.ip, span)
     }
 
-    pub fn with_sp(mut self, sp: u64) -> State
-        ensures { λ r. ⌜ r ≡ withSp self sp ⌝ }
-    {
-        self.sp = sp;
-        self
-    }
-
-    pub fn with_ssp(mut self, ssp: u64) -> State
-        ensures { λ r. ⌜ r ≡ withSsp self ssp ⌝ }
-    {
-        self.ssp = ssp;
-        self
-    }
-
-    pub fn with_flags(mut self, flags: u64) -> State
-        ensures { λ r. ⌜ r ≡ withFlags self flags ⌝ }
-    {
-        self.flags = flags;
-        self
-    }
-
     // An access of this mode and privilege: in 64-bit mode its bytes must be canonical.
     fn access(self, kind: Kind, first: u64, size: Size, store: bool) -> Access
         ensures { λ r. ⌜ r ≡ accessOf self kind first size store ⌝ }
@@ -170,9 +156,29 @@ impl State {
         self.access(Kind::Ordinary, first, size, store)
     }
 
+    // Whether mode, CPL, CR4.CET and the code limit are in their ranges.
+    fn fixed_fit(self) -> bool
+        ensures { λ r. ⌜ r ≡ fixedFit self ⌝ }
+    {
+        if self.mode > 2 {
+            return false;
+        }
+        if self.cpl > 3 {
+            return false;
+        }
+        if self.cet > 1 {
+            return false;
+        }
+        self.limit < 0x1_0000_0000
+    }
+
+    // Whether IP, SP and SSP are in their ranges.
     fn pointers_fit(self) -> bool
         ensures { λ r. ⌜ r ≡ pointersFit self ⌝ }
     {
+        if self.ssp % 4 != 0 {
+            return false;
+        }
         if self.is_long() {
             return true;
         }
@@ -189,19 +195,13 @@ impl State {
     pub fn in_range(self) -> bool
         ensures { λ r. ⌜ r ≡ inRangeOf self ⌝ }
     {
-        if self.mode > 2 {
+        if !self.fixed_fit() {
             return false;
         }
-        if self.cpl > 3 {
+        if !cet_fits(self.ucet) {
             return false;
         }
-        if self.cet > 1 {
-            return false;
-        }
-        if self.ssp % 4 != 0 {
-            return false;
-        }
-        if self.limit >= 0x1_0000_0000 {
+        if !cet_fits(self.scet) {
             return false;
         }
         self.pointers_fit()

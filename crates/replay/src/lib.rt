@@ -3,7 +3,7 @@ mod runs;
 mod steps;
 
 pub use instructions::Instruction;
-pub use instructions::state_of;
+pub use processor::state_of;
 pub use runs::Replay;
 pub use runs::run;
 pub use steps::Tested;

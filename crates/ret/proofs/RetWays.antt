@@ -10,7 +10,8 @@ use Rattle.pages.specs.Pages.{Lookup}
 use Rattle.memory.specs.declared.access.Failure.{Failure}
 use Rattle.memory.specs.declared.load.Loaded.the-variants.{Value, Blocked as Unloaded}
 use Rattle.answers.specs.Answer.{ss, gp, cpNearRet}
-use Rattle.processor.specs.State.{enabled, plus, withIp, withSp, withSsp}
+use Rattle.processor.specs.State.{enabled, plus}
+use Rattle.processor.specs.Layout.{withIp, withSp, withSsp}
 use Rattle.processor.specs.Accesses.{shadow, ordinary}
 use Rattle.answers.specs.Blame.{blame}
 use Rattle.processor.specs.Outcomes.{completed, faulted, stepOf}

@@ -5,7 +5,8 @@ use lib.Dec.{eqb}
 use Rattle.memory.specs.Access.{byteCount}
 use Rattle.memory.specs.declared.access.Size.{Size}
 use Rattle.answers.specs.Answer.{ss, gp, cpNearRet}
-use Rattle.processor.specs.State.{enabled, plus, withIp, withSp, withSsp}
+use Rattle.processor.specs.State.{enabled, plus}
+use Rattle.processor.specs.Layout.{withIp, withSp, withSsp}
 use Rattle.processor.specs.Accesses.{shadow, ordinary}
 use Rattle.processor.specs.Prog.{Prog, done, _>>=_, _>>_, load, unless}
 use Rattle.processor.specs.declared.state.State.{State}

@@ -12,7 +12,8 @@ use Rattle.memory.specs.declared.access.Size.the-variants.{Eight}
 use Rattle.memory.specs.declared.load.Loaded.the-variants.{Value, Blocked as Unloaded}
 use Rattle.memory.proofs.Laws.{loaded-value}
 use Rattle.answers.specs.Answer.{ud, gp, cpRstorssp}
-use Rattle.processor.specs.State.{usable, longBit, plus, next, withSsp, withFlags}
+use Rattle.processor.specs.State.{usable, longBit, plus, next}
+use Rattle.processor.specs.Layout.{withSsp, withFlags}
 use Rattle.processor.specs.Accesses.{shadow}
 use Rattle.answers.specs.Blame.{blame}
 use Rattle.processor.specs.Outcomes.{completed, faulted, stepOf}

@@ -6,7 +6,8 @@ use Rattle.pages.specs.Address.{minus as minusAt}
 use Rattle.memory.specs.declared.access.Size.the-variants.{Eight}
 use Rattle.pages.specs.declared.address.Width.the-variants.{Bits64}
 use Rattle.answers.specs.Answer.{ud, gp, cpRstorssp}
-use Rattle.processor.specs.State.{isLong, longBit, usable, plus, next, withIp, withSsp, withFlags}
+use Rattle.processor.specs.State.{isLong, longBit, usable, plus, next}
+use Rattle.processor.specs.Layout.{withIp, withSsp, withFlags}
 use Rattle.processor.specs.Accesses.{shadow}
 use Rattle.processor.specs.Prog.{Prog, done, _>>=_, _>>_, load, store, unless}
 use Rattle.processor.specs.declared.state.State.{State}

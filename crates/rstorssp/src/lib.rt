@@ -68,9 +68,8 @@ pub fn execute(state: State, pages: &[u64], bytes: &mut [u8], a: u64, span: u64)
             }
             let previous = state.plus(state.ssp, state.long_bit() + 2);
             let reach = access.store(pages, bytes, previous);
-            let switched = state.with_ssp(a);
-            let flagged = switched.with_flags(restored_flags(state.flags, token));
-            flagged.complete(state.next(span))
+            let flags = restored_flags(state.flags, token);
+            state.restore(a, flags, state.next(span))
         }
     }
 }

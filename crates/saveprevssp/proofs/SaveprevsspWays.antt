@@ -11,7 +11,8 @@ use Rattle.memory.specs.declared.access.Failure.{Failure}
 use Rattle.memory.specs.declared.access.Size.the-variants.{Four, Eight}
 use Rattle.memory.specs.declared.load.Loaded.the-variants.{Value, Blocked as Unloaded}
 use Rattle.answers.specs.Answer.{ud, gp}
-use Rattle.processor.specs.State.{isLong, longBit, usable, plus, minus, next, withSsp}
+use Rattle.processor.specs.State.{isLong, longBit, usable, plus, minus, next}
+use Rattle.processor.specs.Layout.{withSsp}
 use Rattle.processor.specs.Accesses.{shadow}
 use Rattle.answers.specs.Blame.{blame}
 use Rattle.processor.specs.Outcomes.{completed, faulted, stepOf}

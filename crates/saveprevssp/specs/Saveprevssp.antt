@@ -4,7 +4,8 @@ use mathlib.Core.Bool.{Bool, true, false, not, cond, _&&_, _||_}
 use lib.Dec.{eqb, ltb}
 use Rattle.memory.specs.declared.access.Size.the-variants.{Four, Eight}
 use Rattle.answers.specs.Answer.{ud, gp}
-use Rattle.processor.specs.State.{isLong, longBit, usable, plus, minus, next, withIp, withSsp}
+use Rattle.processor.specs.State.{isLong, longBit, usable, plus, minus, next}
+use Rattle.processor.specs.Layout.{withIp, withSsp}
 use Rattle.processor.specs.Accesses.{shadow}
 use Rattle.processor.specs.Prog.{Prog, done, _>>=_, _>>_, load, storeBoth, unless}
 use Rattle.processor.specs.declared.state.State.{State}

@@ -12,7 +12,7 @@ use Rattle.pages.specs.Pages.{pageBytes, pageLimit}
 use Rattle.processor.specs.State.{inRange}
 use Rattle.answers.specs.declared.answer.Refusal.{Refusal}
 use Rattle.answers.specs.declared.answer.Refusal.the-variants.{Length}
-use Rattle.instructions.specs.Layout.{stateOf}
+use Rattle.processor.specs.Layout.{stateOf}
 use Rattle.replay.specs.Run.{check}
 use Rattle.replay.specs.declared.steps.Tested.the-variants.{Passed, Failed}
 use Rattle.sheet.specs.Lines.{lines}

@@ -4,7 +4,7 @@ ghost use Prim.Native.Nat.{_*_, _≤_};
 ghost use lib.ListN.{length, take, drop};
 ghost use Rattle.pages.specs.Pages.{pageBytes, pageLimit};
 ghost use Rattle.processor.specs.State.{inRange};
-ghost use Rattle.instructions.specs.Layout.{stateOf};
+ghost use Rattle.processor.specs.Layout.{stateOf};
 ghost use Rattle.replay.specs.declared.steps.Tested.the-variants.{Passed};
 ghost use Rattle.sheet.specs.Lines.{lines};
 ghost use Rattle.sheet.specs.Reading.{numbers};

@@ -11,7 +11,7 @@ use lib.Dec.{eqb}
 use borrow.Author.Tests.{eq-eqb, eqb-true}
 use Rattle.pages.specs.Pages.{pageBytes, pageOf, onPage, anyEntry, repeated}
 use Rattle.processor.specs.State.{inRange}
-use Rattle.instructions.specs.Layout.{stateOf}
+use Rattle.processor.specs.Layout.{stateOf}
 use Rattle.sheet.specs.Sheets.{frameOf}
 use Rattle.sheet.proofs.TestedLaws.{neither, ValidList}
 use Rattle.sheet_write.specs.Order.{Lent}

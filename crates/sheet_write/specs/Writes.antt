@@ -5,7 +5,7 @@ use mathlib.Core.List.{List}
 use lib.ListN.{length}
 use lib.Dec.{eqb, leb}
 use Rattle.processor.specs.State.{inRange}
-use Rattle.instructions.specs.Layout.{stateOf}
+use Rattle.processor.specs.Layout.{stateOf}
 use Rattle.replay.specs.Run.{check}
 use Rattle.replay.specs.declared.steps.Tested.{Tested}
 use Rattle.replay.specs.declared.steps.Tested.the-variants.{Passed, Failed}

@@ -5,7 +5,8 @@ use lib.Dec.{eqb}
 use Rattle.memory.specs.Access.{byteCount}
 use Rattle.memory.specs.declared.access.Size.{Size}
 use Rattle.answers.specs.Answer.{ud, gp}
-use Rattle.processor.specs.State.{usable, next, withIp}
+use Rattle.processor.specs.State.{usable, next}
+use Rattle.processor.specs.Layout.{withIp}
 use Rattle.processor.specs.Accesses.{shadow}
 use Rattle.processor.specs.Prog.{Prog, done, _>>=_, _>>_, store, unless}
 use Rattle.processor.specs.declared.state.State.{State}

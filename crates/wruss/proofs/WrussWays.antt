@@ -11,7 +11,8 @@ use Rattle.memory.specs.declared.access.Failure.{Failure}
 use Rattle.memory.specs.declared.access.Reach.the-variants.{Ready, Blocked}
 use Rattle.memory.specs.declared.access.Size.{Size}
 use Rattle.answers.specs.Answer.{ud, gp}
-use Rattle.processor.specs.State.{next, withIp}
+use Rattle.processor.specs.State.{next}
+use Rattle.processor.specs.Layout.{withIp}
 use Rattle.answers.specs.Blame.{blame}
 use Rattle.processor.specs.Outcomes.{completed, faulted, stepOf}
 use Rattle.processor.specs.Prog.{done, store, _>>_, interp, operate}

@@ -7,7 +7,8 @@ use Rattle.memory.specs.declared.access.Access.{Access}
 use Rattle.memory.specs.declared.access.Kind.the-variants.{UserShadow}
 use Rattle.memory.specs.declared.access.Size.{Size}
 use Rattle.answers.specs.Answer.{ud, gp}
-use Rattle.processor.specs.State.{isLong, widthOf, next, withIp}
+use Rattle.processor.specs.State.{isLong, widthOf, next}
+use Rattle.processor.specs.Layout.{withIp}
 use Rattle.processor.specs.Prog.{Prog, done, _>>=_, _>>_, store, unless}
 use Rattle.processor.specs.declared.state.State.{State}
 

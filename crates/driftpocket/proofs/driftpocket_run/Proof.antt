@@ -3,7 +3,7 @@ use borrow.Author.Needs.{needs}
 use borrow.Author.Tests.{eq-eqb, ne-eqb, lt-ltb, le-ltb}
 use Rattle.driftpocket.proofs.driftpocket_run.Tie as tie
 use Rattle.driftpocket.proofs.Laws.{over-exactly}
-use Rattle.driftpocket.specs.Crossing.{stateWords, crossed}
+use Rattle.driftpocket.specs.Crossing.{wordsOf, crossed}
 use Rattle.driftpocket.proofs.driftpocket_run.Statement.{statement}
 
 returns : tie.Need-returns
@@ -52,7 +52,7 @@ same-length-4 c = search needs
 
 returns-3 : tie.Need-returns-3
 unfolding crossed
-returns-3 c = rw (le-ltb _ _ (c .before .before .before .before .before .before .before .before .before .before .before .before .before .before .before .before .if1 .left), eq-eqb _ _ (c .before .before .before .before .before .before .before .before .before .before .before .before .before .before .before .if2 .left), c .number2 .ensures, c .before .before .before .write-report2 .ensures, c .before .before .before .before .before .before .before .write-state .ensures, over-exactly (stateWords (c .before .before .before .before .before .before .before .before .before .before .before .run .result .state)) (c .before .before .before .before .before .before .before .before .before .before .before .before .before .before .before .before .before .before .before .before .before .before .args .state .now) (c .before .before .before .before .before .before .before .before .before .before .before .before .before .before .before .if2 .left), ← c .before .before .before .before .before .before .before .before .before .before .before .before .before .state-of .ensures, ← c .before .before .before .before .before .before .before .before .before .before .before .run .ensures)
+returns-3 c = rw (le-ltb _ _ (c .before .before .before .before .before .before .before .before .before .before .before .before .before .before .before .before .if1 .left), eq-eqb _ _ (c .before .before .before .before .before .before .before .before .before .before .before .before .before .before .before .if2 .left), c .number2 .ensures, c .before .before .before .write-report2 .ensures, c .before .before .before .before .before .before .before .write-state .ensures, over-exactly (wordsOf (c .before .before .before .before .before .before .before .before .before .before .before .run .result .state)) (c .before .before .before .before .before .before .before .before .before .before .before .before .before .before .before .before .before .before .before .before .before .before .args .state .now) (c .before .before .before .before .before .before .before .before .before .before .before .before .before .before .before .if2 .left), ← c .before .before .before .before .before .before .before .before .before .before .before .before .before .state-of .ensures, ← c .before .before .before .before .before .before .before .before .before .before .before .run .ensures)
 
 pub driftpocket-run-spec : {M : Type 1} → statement M
 driftpocket-run-spec =

@@ -3,7 +3,7 @@ use mathlib.Core.Path.{_∙_, ap}
 use lib.ListN.{drop}
 use borrow.Author.Needs.{needs}
 use Rattle.processor.specs.State.{inRange}
-use Rattle.instructions.specs.Layout.{stateOf}
+use Rattle.processor.specs.Layout.{stateOf}
 use Rattle.sheet.specs.declared.line.Line.the-variants.{State}
 use Rattle.sheet_read.specs.Scan.{stateAt}
 use Rattle.sheet_read.proofs.Leads.{numbers-length}

@@ -1,8 +1,11 @@
-// A state, as ten words give it.
+// A state in words: from them, and to them. A further field edits the struct and this file.
 ghost use mathlib.Core.Path.{_≡_};
 ghost use lib.ListN.{getD};
-ghost use Rattle.instructions.specs.Layout.{stateOf};
-use processor::State;
+ghost use Rattle.processor.specs.Layout.{stateOf, wordsOf};
+use crate::state::State;
+
+// How many fields a state has.
+pub const FIELDS: usize = 10;
 
 // The i-th word, or 0 where there is none.
 fn word(words: &[u64], i: usize) -> u64
@@ -26,5 +29,25 @@ pub fn state_of(words: &[u64]) -> State
         ssp: word(words, 7),
         flags: word(words, 8),
         limit: word(words, 9),
+    }
+}
+
+impl State {
+    // The words of its fields.
+    pub fn words(self) -> [u64; FIELDS]
+        ensures { λ r. ⌜ r ≡ wordsOf self ⌝ }
+    {
+        [
+            self.mode,
+            self.cpl,
+            self.cet,
+            self.ucet,
+            self.scet,
+            self.ip,
+            self.sp,
+            self.ssp,
+            self.flags,
+            self.limit,
+        ]
     }
 }

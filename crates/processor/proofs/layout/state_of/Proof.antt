@@ -1,8 +1,8 @@
 -- `state_of` meets its contract: ten words, ten fields. Assumes nothing.
 use borrow.Author.Needs.{needs}
-use Rattle.instructions.proofs.layout.state_of.Tie as tie
-use Rattle.instructions.specs.Layout.{stateOf}
-use Rattle.instructions.proofs.layout.state_of.Statement.{statement}
+use Rattle.processor.proofs.layout.state_of.Tie as tie
+use Rattle.processor.specs.Layout.{stateOf}
+use Rattle.processor.proofs.layout.state_of.Statement.{statement}
 
 word-requires : tie.Need-word-requires
 word-requires c κs = search needs

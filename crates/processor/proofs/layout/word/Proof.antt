@@ -2,8 +2,8 @@
 use mathlib.Core.Path.{sym}
 use lib.ListN.{List·getD-eq-default}
 use borrow.Author.Needs.{needs}
-use Rattle.instructions.proofs.layout.word.Tie as tie
-use Rattle.instructions.proofs.layout.word.Statement.{statement}
+use Rattle.processor.proofs.layout.word.Tie as tie
+use Rattle.processor.proofs.layout.word.Statement.{statement}
 
 mul-result : tie.Need-mul-result
 mul-result c = search needs
