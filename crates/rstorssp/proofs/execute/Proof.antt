@@ -93,20 +93,14 @@ plus-requires c κs = search needs
 store-requires : tie.Need-store-requires
 store-requires c κs = search needs
 
-with-ssp-requires : tie.Need-with-ssp-requires
-with-ssp-requires c κs = search needs
-
 restored-flags-requires : tie.Need-restored-flags-requires
 restored-flags-requires c κs = search needs
-
-with-flags-requires : tie.Need-with-flags-requires
-with-flags-requires c κs = search needs
 
 next-requires : tie.Need-next-requires
 next-requires c κs = search needs
 
-complete-requires : tie.Need-complete-requires
-complete-requires c κs = search needs
+restore-requires : tie.Need-restore-requires
+restore-requires c κs = search needs
 
 same-length-2 : tie.Need-same-length-2
 same-length-2 c = search needs
@@ -121,20 +115,18 @@ same-length-3 c = search needs
 
 returns-5 : tie.Need-returns-5
 returns-5 c =
-    let value = found (c .before .before .before .before .before .before .before .before .before .before .before .before .before .before .before .before) ∙ c .before .before .before .before .before .before .before .before .before .before .before .before .before .before .token .given .1 in
+    let value = found (c .before .before .before .before .before .before .before .before .before .before .before .before .before .before) ∙ c .before .before .before .before .before .before .before .before .before .before .before .before .token .given .1 in
     rw (
-      c .complete .ensures,
+      c .restore .ensures,
       c .before .next .ensures,
-      c .before .before .with-flags .ensures,
-      c .before .before .before .restored-flags .ensures,
-      c .before .before .before .before .with-ssp .ensures,
-      c .before .before .before .before .before .before .before .store .ensures .1,
-      c .before .before .before .before .before .before .before .before .before .before .before .before .before .before .before .before .before .before .shadow .ensures,
-      c .before .before .before .before .before .before .before .before .before .plus .ensures,
-      c .before .before .before .before .before .before .before .before .before .before .long-bit .ensures,
+      c .before .before .restored-flags .ensures,
+      c .before .before .before .before .before .store .ensures .1,
+      c .before .before .before .before .before .before .before .before .before .before .before .before .before .before .before .before .shadow .ensures,
+      c .before .before .before .before .before .before .before .plus .ensures,
+      c .before .before .before .before .before .before .before .before .long-bit .ensures,
       store-done _ _ _ _ (loaded-value _ _ _ _ value .0),
     )
-    (sym (restored _ _ _ _ _ (is-usable (c .before .before .before .before .before .before .before .before .before .before .before .before .before .before .before .before .before .before .before .before)) (c .before .before .before .before .before .before .before .before .before .before .before .before .before .before .before .before .before .before .before .if2 .left) _ value (sym (c .before .before .before .before .before .before .before .before .before .before .before .before .good-token .ensures) ∙ not-false _ (c .before .before .before .before .before .before .before .before .before .before .before .if3 .left))))
+    (sym (restored _ _ _ _ _ (is-usable (c .before .before .before .before .before .before .before .before .before .before .before .before .before .before .before .before .before .before)) (c .before .before .before .before .before .before .before .before .before .before .before .before .before .before .before .before .before .if2 .left) _ value (sym (c .before .before .before .before .before .before .before .before .before .before .good-token .ensures) ∙ not-false _ (c .before .before .before .before .before .before .before .before .before .if3 .left))))
 
 pub execute-spec : {M : Type 1} → statement M
 execute-spec =
@@ -162,11 +154,9 @@ execute-spec =
     add-plus
     plus-requires
     store-requires
-    with-ssp-requires
     restored-flags-requires
-    with-flags-requires
     next-requires
-    complete-requires
+    restore-requires
     same-length-2
     returns-4
     same-length-3
