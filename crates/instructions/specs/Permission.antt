@@ -1,6 +1,7 @@
 -- The permission bits of WRSS, WR_SHSTK_EN: bit 1 of U_CET and of S_CET. No operation is shown them: WRSS is told whether it is
 -- permitted, and all that an operation reads is the state without them. So they alter nothing else. Assumes nothing.
 use Prim.Native.Nat.{ℕ, _+_, _-_, _*_, _/_, _%_}
+use Rattle.processor.specs.Layout.{withCet}
 use Rattle.processor.specs.declared.state.State.{State}
 
 -- bit 1 of a CET register, as 0 or 2
@@ -10,10 +11,6 @@ writeBit register = register / 2 % 2 * 2
 -- a CET register without it
 unfoldable pub withoutWrite : ℕ → ℕ
 withoutWrite register = register - writeBit register
-
--- a state with other CET registers
-abbrev pub withCet : State → ℕ → ℕ → State
-withCet s ucet scet = record { mode = s .mode; cpl = s .cpl; cet = s .cet; ucet = ucet; scet = scet; ip = s .ip; sp = s .sp; ssp = s .ssp; flags = s .flags; limit = s .limit }
 
 -- the state as operations see it: without the permission bits
 unfoldable pub hidden : State → State

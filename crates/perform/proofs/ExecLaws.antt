@@ -11,8 +11,9 @@ use Rattle.processor.specs.declared.state.State.{State}
 use Rattle.processor.proofs.Laws.{continues, breaks}
 use Rattle.instructions.specs.Instruction.{wellFormed}
 use Rattle.instructions.specs.Permission.{hidden, shown}
-use Rattle.perform.specs.Codes.{codes}
-use Rattle.perform.specs.Exec.{InstructionSet, operationOf, exec, perform}
+use Rattle.instructions.specs.Operation.{decoded}
+use Rattle.perform.specs.Codes.{program, codes}
+use Rattle.perform.specs.Exec.{InstructionSet, orWrss, operationOf, whole, exec, perform}
 use Rattle.perform.specs.Unhidden.{unhidden}
 use Rattle.instructions.specs.declared.instruction.Instruction.{Instruction}
 
@@ -38,11 +39,16 @@ put-back look p s h bytes = go (interp look p bytes) refl
 
 -- a well-formed instruction
 pub performed : (set : InstructionSet) (look : Lookup) (i : Instruction) (s : State) (bytes : List ℕ) → set .fits i (hidden s) ≡ true
-    → perform set look i s bytes ≡ backFrom s (operate look (operationOf set i (permitted s) (hidden s)) (hidden s) bytes)
+    → perform set look i s bytes ≡ backFrom s (operate look (whole set i (permitted s) (hidden s)) (hidden s) bytes)
 unfolding perform exec
-performed set look i s bytes e = rw e (put-back look (operationOf set i (permitted s) (hidden s)) s (hidden s) bytes)
+performed set look i s bytes e = rw e (put-back look (whole set i (permitted s) (hidden s)) s (hidden s) bytes)
 
 -- the form of the built codes depends on the mode alone
 pub form-fits : (i : Instruction) (s : State) (t : Bool) → wellFormed i (s .mode) ≡ t → codes .fits i (hidden s) ≡ t
 unfolding hidden
 form-fits i s t e = e
+
+-- of the built codes nothing precedes an instruction, and an operation is named by the code
+pub built-whole : (i : Instruction) (allowed : Bool) (s : State) → whole codes i allowed s ≡ orWrss (decoded (i .code)) i allowed s (program (decoded (i .code)) i s)
+unfolding whole operationOf _>>=_
+built-whole i allowed s = refl

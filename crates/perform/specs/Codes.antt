@@ -1,44 +1,51 @@
--- The instruction set that is built: codes 1 to 12 (docs/RULES.md, "Instructions"). Assumes nothing.
+-- The instruction set that is built: what each operation does (docs/RULES.md, "Instructions"). Assumes nothing.
 use Prim.Native.Nat.{ℕ}
-use mathlib.Core.Bool.{Bool, true, cond}
-use lib.Dec.{eqb}
+use mathlib.Core.Bool.{Bool, false, true}
 use Rattle.answers.specs.Answer.{ud}
-use Rattle.processor.specs.Prog.{Prog, stop}
+use Rattle.processor.specs.Prog.{Prog, done, stop}
 use Rattle.processor.specs.declared.state.State.{State}
 use Rattle.incssp.specs.Incssp.{incssp}
+use Rattle.wrss.specs.Wrss.{wrss}
 use Rattle.wruss.specs.Wruss.{wruss}
 use Rattle.rstorssp.specs.Rstorssp.{rstorssp}
 use Rattle.saveprevssp.specs.Saveprevssp.{saveprevssp}
 use Rattle.call.specs.Call.{relative, displaced, call}
 use Rattle.ret.specs.Ret.{ret}
-use Rattle.instructions.specs.Instruction.{isIncssp, isCall, isRet, isWruss, sizeOf, wellFormed}
+use Rattle.instructions.specs.Operation.{decoded}
+use Rattle.instructions.specs.Instruction.{wellFormed}
 use Rattle.perform.specs.Exec.{InstructionSet}
 use Rattle.instructions.specs.declared.instruction.Instruction.{Instruction}
+use Rattle.instructions.specs.declared.operation.Operation.{Operation}
+use Rattle.instructions.specs.declared.operation.Operation.the-variants.{Incssp, Rstorssp, Saveprevssp, Wrss, Call, Ret, Wruss, Unknown}
+use Rattle.instructions.specs.declared.operation.Target.{Target}
+use Rattle.instructions.specs.declared.operation.Target.the-variants.{Relative, Absolute}
 
--- the target of code 7 is relative to Next, that of code 8 is A
-unfoldable pub target : Instruction → State → ℕ
-target i s = cond (eqb (i .code) 7) (relative s (i .a) (i .length)) (i .a)
+-- the target of a call: relative to Next, or A
+abbrev pub target : Target → Instruction → State → ℕ
+target Relative i s = relative s (i .a) (i .length)
+target Absolute i s = i .a
 
--- Whether a call is of a form that makes a shadow frame, where the shadow stack is enabled: code 7 unless its displacement is 0, code 8
--- also where its target is Next. Asked of calls only.
-unfoldable pub framed : Instruction → Bool
-framed i = cond (eqb (i .code) 7) (displaced (i .a)) true
+-- whether a call is of a form that makes a shadow frame, where the shadow stack is enabled: a relative one unless its displacement is 0, an
+-- absolute one also where its target is Next
+abbrev pub framed : Target → Instruction → Bool
+framed Relative i = displaced (i .a)
+framed Absolute i = true
 
--- codes 9 to 12; A is 0 in RET without a count, and an unknown code has been refused before
-unfoldable pub operationFrom9 : Instruction → State → Prog State
-operationFrom9 i s =
-    cond (isRet i) (ret (i .a) s)
-    (cond (isWruss i) (wruss (sizeOf i) (i .a) (i .b) (i .length) s)
-    (stop ud))
+-- What each operation does. WRSS is told besides whether it is permitted (`orWrss`), so that its line here is not used; A is 0 in RET without a
+-- count; an unknown code has been refused before.
+abbrev pub program : Operation → Instruction → State → Prog State
+program (Incssp size) i s = incssp size (i .b) (i .length) s
+program Rstorssp i s = rstorssp (i .a) (i .length) s
+program Saveprevssp i s = saveprevssp (i .length) s
+program (Wrss size) i s = wrss size false (i .a) (i .b) (i .length) s
+program (Call how) i s = call (target how i s) (framed how i) (i .length) s
+program (Ret release) i s = ret (i .a) s
+program (Wruss size) i s = wruss size (i .a) (i .b) (i .length) s
+program Unknown i s = stop ud
 
--- by its code; codes 5 and 6 are WRSS (`operationOf`)
-unfoldable pub operation : Instruction → State → Prog State
-operation i s =
-    cond (isIncssp i) (incssp (sizeOf i) (i .b) (i .length) s)
-    (cond (eqb (i .code) 3) (rstorssp (i .a) (i .length) s)
-    (cond (eqb (i .code) 4) (saveprevssp (i .length) s)
-    (cond (isCall i) (call (target i s) (framed i) (i .length) s)
-    (operationFrom9 i s))))
+-- before every instruction, WRSS too: nothing
+abbrev pub preceding : Instruction → State → Prog (Unit {0})
+preceding i s = done tt
 
 abbrev pub codes : InstructionSet
-codes = record { fits = λ i s. wellFormed i (s .mode); operation = operation }
+codes = record { fits = λ i s. wellFormed i (s .mode); precedes = preceding; operation = λ i s. program (decoded (i .code)) i s }

@@ -15,11 +15,40 @@ use Rattle.answers.specs.declared.answer.Answer.the-variants.{Completed, Refuse
 use Rattle.answers.specs.declared.answer.Refusal.the-variants.{Length, Kind, Address, Repeat, State as BadState, Words}
 use Rattle.processor.specs.declared.state.State.{State}
 use Rattle.instructions.specs.Instruction.{instructionAt}
+use Rattle.perform.specs.Codes.{codes}
 use Rattle.perform.specs.Exec.{InstructionSet, refused, perform}
 use Rattle.instructions.specs.declared.instruction.Instruction.{Instruction}
 use Rattle.replay.specs.declared.steps.Tested.{Tested}
 use Rattle.replay.specs.declared.steps.Tested.the-variants.{Passed, Failed}
 use Rattle.replay.specs.declared.runs.Replay.{Replay}
+
+-- ---- what a run is given
+
+-- a state, a page list with the bytes lent for it, and the words of the instructions
+pub record Input : Type 0 where
+  pub state : State
+  pub pages : List ℕ
+  pub bytes : List ℕ
+  pub words : List ℕ
+
+-- where its addresses lead
+abbrev pub lookOf : Input → Lookup
+lookOf given = lookupOf (given .pages) (given .bytes)
+
+-- its k-th instruction
+abbrev pub listed : Input → ℕ → Instruction
+listed given = instructionAt (given .words)
+
+-- how many instructions it lists
+abbrev pub listedCount : Input → ℕ
+listedCount given = length (given .words) / 4
+
+-- the same but for the state, and but for the pages and their bytes
+abbrev pub withState : Input → State → Input
+withState given s = record { state = s; pages = given .pages; bytes = given .bytes; words = given .words }
+
+abbrev pub withPages : Input → List ℕ → List ℕ → Input
+withPages given pages bytes = record { state = given .state; pages = pages; bytes = bytes; words = given .words }
 
 -- ---- what is tested before any step
 
@@ -41,8 +70,11 @@ afterPages Repeated rest = Failed Repeat
 
 -- Refusals 1, 2, 3, 4, 5 and 7, in this order, each over the whole input: `good` is whether the state is in range, `lent` and `words`
 -- are how many bytes and words there are.
-unfoldable pub check : List ℕ → ℕ → Bool → ℕ → Tested
-check pages lent good words = afterPages (listing pages lent) (cond good (cond (badWords words) (Failed Words) Passed) (Failed BadState))
+unfoldable pub tested : List ℕ → ℕ → Bool → ℕ → Tested
+tested pages lent good words = afterPages (listing pages lent) (cond good (cond (badWords words) (Failed Words) Passed) (Failed BadState))
+
+unfoldable pub check : Input → Tested
+check given = tested (given .pages) (length (given .bytes)) (inRange (given .state)) (length (given .words))
 
 -- ---- one step
 
@@ -50,9 +82,10 @@ abbrev pub stepIf : Tested → Step → State → List ℕ → Step
 stepIf Passed go s bytes = go
 stepIf (Failed refusal) go s bytes = refused refusal s bytes
 
--- one instruction by itself, with every refusal that it can have
-unfoldable pub step : InstructionSet → List ℕ → Instruction → State → List ℕ → Step
-step set pages i s bytes = stepIf (check pages (length bytes) (inRange s) 4) (perform set (lookupOf pages bytes) i s bytes) s bytes
+-- the first instruction of the list by itself, with every refusal that it can have
+unfoldable pub step : InstructionSet → Input → Step
+step set given =
+    stepIf (check given) (perform set (lookOf given) (listed given 0) (given .state) (given .bytes)) (given .state) (given .bytes)
 
 -- ---- a run
 
@@ -85,16 +118,32 @@ runIf Passed go s bytes = go
 runIf (Failed refusal) go s bytes = endsAt 0 (refused refusal s bytes)
 
 -- the whole run, from any input whatever
-unfoldable pub run : InstructionSet → List ℕ → State → List ℕ → List ℕ → Run
-run set pages s bytes words =
-    runIf (check pages (length bytes) (inRange s) (length words)) (runFrom set (lookupOf pages bytes) (instructionAt words) 0 (length words / 4) s bytes) s bytes
+unfoldable pub run : InstructionSet → Input → Run
+run set given =
+    runIf (check given) (runFrom set (lookOf given) (listed given) 0 (listedCount given) (given .state) (given .bytes)) (given .state) (given .bytes)
 
--- the papers' "after k": state and bytes after k single operations from the start, whatever each answers
-unfoldable pub after : InstructionSet → Lookup → (ℕ → Instruction) → ℕ → State → List ℕ → Step
-after set look listed zero s bytes = record { answer = Completed; state = s; bytes = bytes }
-after set look listed (suc k) s bytes =
-    let before : Step = after set look listed k s bytes in
+-- state and bytes after k single operations from a state and bytes, whatever each answers
+unfoldable pub afterFrom : InstructionSet → Lookup → (ℕ → Instruction) → ℕ → State → List ℕ → Step
+afterFrom set look listed zero s bytes = record { answer = Completed; state = s; bytes = bytes }
+afterFrom set look listed (suc k) s bytes =
+    let before : Step = afterFrom set look listed k s bytes in
     perform set look (listed k) (before .state) (before .bytes)
+
+-- the papers' "after k": after k single operations from the start
+abbrev pub after : InstructionSet → Input → ℕ → Step
+after set given k = afterFrom set (lookOf given) (listed given) k (given .state) (given .bytes)
+
+-- ---- the codes that are built
+
+-- the instruction set that an input is run by
+abbrev pub built : Input → InstructionSet
+built given = codes
+
+abbrev pub stepped : Input → Step
+stepped given = step (built given) given
+
+abbrev pub replayed : Input → Run
+replayed given = run (built given) given
 
 -- an outcome of the code with the bytes that are left
 abbrev pub runOf : Replay → List ℕ → Run

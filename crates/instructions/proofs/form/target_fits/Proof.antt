@@ -1,0 +1,24 @@
+use borrow.Author.Needs.{needs}
+use Rattle.instructions.proofs.form.target_fits.Statement.{statement}
+use Rattle.instructions.proofs.form.target_fits.Tie as tie
+use Rattle.instructions.proofs.form.target_fits.Reads as reads
+use Rattle.instructions.proofs.form.target_fits.Lts as lts
+
+-- src/form.rt:24:29
+enum-told : tie.Need-enum-told
+enum-told c = search needs
+
+-- src/form.rt:25:29
+enum-told-2 : tie.Need-enum-told-2
+enum-told-2 c = search needs
+
+-- src/form.rt:20:1
+returns : tie.Need-returns
+returns c = ?
+
+-- src/form.rt:20:1
+returns-2 : tie.Need-returns-2
+returns-2 c = search needs
+
+pub target-fits-spec : {M : Type 1} → statement M
+target-fits-spec = tie.close (tie.spec enum-told enum-told-2 returns returns-2)
