@@ -1,22 +1,18 @@
+-- `target_fits` meets its contract. Assumes nothing.
+
 use borrow.Author.Needs.{needs}
 use Rattle.instructions.proofs.form.target_fits.Statement.{statement}
 use Rattle.instructions.proofs.form.target_fits.Tie as tie
-use Rattle.instructions.proofs.form.target_fits.Reads as reads
-use Rattle.instructions.proofs.form.target_fits.Lts as lts
 
--- src/form.rt:24:29
 enum-told : tie.Need-enum-told
 enum-told c = search needs
 
--- src/form.rt:25:29
 enum-told-2 : tie.Need-enum-told-2
 enum-told-2 c = search needs
 
--- src/form.rt:20:1
 returns : tie.Need-returns
-returns c = ?
+returns c = rw (c .enum-told .given .1)
 
--- src/form.rt:20:1
 returns-2 : tie.Need-returns-2
 returns-2 c = search needs
 

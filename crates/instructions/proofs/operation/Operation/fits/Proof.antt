@@ -1,35 +1,33 @@
+-- `Operation::fits` meets its contract: its tests are those of the definition. Assumes nothing.
+use mathlib.Core.Path.{sym, _∙_}
+use borrow.Author.Tests.{not-true, not-false}
+use Rattle.instructions.specs.Instruction.{fits}
 use borrow.Author.Needs.{needs}
 use Rattle.instructions.proofs.operation.Operation.fits.Statement.{statement}
 use Rattle.instructions.proofs.operation.Operation.fits.Tie as tie
-use Rattle.instructions.proofs.operation.Operation.fits.Reads as reads
-use Rattle.instructions.proofs.operation.Operation.fits.Lts as lts
-use Rattle.instructions.proofs.form.length_fits.Reads as length-fits-reads
-use Rattle.instructions.proofs.operation.Operation.mode_fits.Reads as mode-fits-reads
-use Rattle.instructions.proofs.operation.Operation.words_fit.Reads as words-fit-reads
 
--- src/form.rt:121:13
 words-fit-requires : tie.Need-words-fit-requires
 words-fit-requires c κs = search needs
 
--- src/form.rt:122:13
 returns : tie.Need-returns
-returns c = ?
+unfolding fits
+returns c = rw (sym (c .before .words-fit .ensures) ∙ not-true _ (c .if1 .taken))
 
--- src/form.rt:124:13
 length-fits-requires : tie.Need-length-fits-requires
 length-fits-requires c κs = search needs
 
--- src/form.rt:125:13
 returns-2 : tie.Need-returns-2
-returns-2 c = ?
+unfolding fits
+returns-2 c = rw (sym (c .before .before .before .words-fit .ensures) ∙ not-false _ (c .before .before .if1 .left), sym (c .before .length-fits .ensures) ∙ not-true _ (c .if2 .taken))
 
--- src/form.rt:127:9
 mode-fits-requires : tie.Need-mode-fits-requires
 mode-fits-requires c κs = search needs
 
--- src/form.rt:118:5
 returns-3 : tie.Need-returns-3
-returns-3 c = ?
+unfolding fits
+returns-3 c = 
+    rw (sym (c .before .before .before .before .words-fit .ensures) ∙ not-false _ (c .before .before .before .if1 .left), sym (c .before .before .length-fits .ensures) ∙ not-false _ (c .before .if2 .left))
+    (c .mode-fits .ensures)
 
 pub fits-spec : {M : Type 1} → statement M
 fits-spec =

@@ -1,30 +1,27 @@
+-- `Operation::mode_fits` meets its contract, mode by mode. Assumes nothing.
+use borrow.Author.Tests.{ne-eqb}
+use Rattle.instructions.specs.Instruction.{modeFits}
 use borrow.Author.Needs.{needs}
 use Rattle.instructions.proofs.operation.Operation.mode_fits.Statement.{statement}
 use Rattle.instructions.proofs.operation.Operation.mode_fits.Tie as tie
-use Rattle.instructions.proofs.operation.Operation.mode_fits.Reads as reads
-use Rattle.instructions.proofs.operation.Operation.mode_fits.Lts as lts
-use Rattle.instructions.proofs.operation.Operation.in_mode_0.Reads as in-mode-0-reads
-use Rattle.instructions.proofs.operation.Operation.narrow.Reads as narrow-reads
 
--- src/form.rt:111:18
 in-mode-0-requires : tie.Need-in-mode-0-requires
 in-mode-0-requires c κs = search needs
 
--- src/form.rt:112:18
 narrow-requires : tie.Need-narrow-requires
 narrow-requires c κs = search needs
 
--- src/form.rt:107:5
 returns : tie.Need-returns
-returns c = ?
+unfolding modeFits
+returns c = rw (c .before .match .keys1) (c .in-mode-0 .ensures)
 
--- src/form.rt:107:5
 returns-2 : tie.Need-returns-2
-returns-2 c = ?
+unfolding modeFits
+returns-2 c = rw (c .before .match .keys2) (c .narrow .ensures)
 
--- src/form.rt:107:5
 returns-3 : tie.Need-returns-3
-returns-3 c = ?
+unfolding modeFits
+returns-3 c = rw (ne-eqb _ _ (c .match .rest .0 .1), ne-eqb _ _ (c .match .rest .1))
 
 pub mode-fits-spec : {M : Type 1} → statement M
 mode-fits-spec =

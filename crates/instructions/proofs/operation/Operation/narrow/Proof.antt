@@ -1,25 +1,25 @@
+-- `Operation::narrow` meets its contract: its tests are those of the definition. Assumes nothing.
+use mathlib.Core.Path.{sym, _∙_}
+use borrow.Author.Tests.{lt-ltb, le-ltb, not-true, not-false}
+use Rattle.instructions.specs.Instruction.{narrow}
 use borrow.Author.Needs.{needs}
 use Rattle.instructions.proofs.operation.Operation.narrow.Statement.{statement}
 use Rattle.instructions.proofs.operation.Operation.narrow.Tie as tie
-use Rattle.instructions.proofs.operation.Operation.narrow.Reads as reads
-use Rattle.instructions.proofs.operation.Operation.narrow.Lts as lts
-use Rattle.instructions.proofs.operation.Operation.in_mode_1.Reads as in-mode-1-reads
 
--- src/form.rt:101:13
 in-mode-1-requires : tie.Need-in-mode-1-requires
 in-mode-1-requires c κs = search needs
 
--- src/form.rt:102:13
 returns : tie.Need-returns
-returns c = ?
+unfolding narrow
+returns c = rw (sym (c .before .in-mode-1 .ensures) ∙ not-true _ (c .if1 .taken))
 
--- src/form.rt:98:5
 returns-2 : tie.Need-returns-2
-returns-2 c = ?
+unfolding narrow
+returns-2 c = rw (sym (c .before .before .before .before .in-mode-1 .ensures) ∙ not-false _ (c .before .before .before .if1 .left), lt-ltb _ _ (c .before .if2 .taken))
 
--- src/form.rt:98:5
 returns-3 : tie.Need-returns-3
-returns-3 c = ?
+unfolding narrow
+returns-3 c = rw (sym (c .before .before .before .in-mode-1 .ensures) ∙ not-false _ (c .before .before .if1 .left), le-ltb _ _ (c .if2 .left))
 
 pub narrow-spec : {M : Type 1} → statement M
 narrow-spec = tie.close (tie.spec in-mode-1-requires returns returns-2 returns-3)

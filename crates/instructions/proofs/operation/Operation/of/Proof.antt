@@ -1,59 +1,74 @@
+-- `Operation::of` meets its contract, code by code. Assumes nothing.
+use borrow.Author.Tests.{ne-eqb}
+use Rattle.instructions.specs.Operation.{decoded}
 use Rattle.instructions.proofs.operation.Operation.of.Statement.{statement}
 use Rattle.instructions.proofs.operation.Operation.of.Tie as tie
-use Rattle.instructions.proofs.operation.Operation.of.Reads as reads
-use Rattle.instructions.proofs.operation.Operation.of.Lts as lts
 
--- src/operation.rt:32:5
 returns : tie.Need-returns
-returns c = ?
+unfolding decoded
+returns c = rw (c .match .keys1)
 
--- src/operation.rt:32:5
 returns-2 : tie.Need-returns-2
-returns-2 c = ?
+unfolding decoded
+returns-2 c = rw (c .match .keys2)
 
--- src/operation.rt:32:5
 returns-3 : tie.Need-returns-3
-returns-3 c = ?
+unfolding decoded
+returns-3 c = rw (c .match .keys3)
 
--- src/operation.rt:32:5
 returns-4 : tie.Need-returns-4
-returns-4 c = ?
+unfolding decoded
+returns-4 c = rw (c .match .keys4)
 
--- src/operation.rt:32:5
 returns-5 : tie.Need-returns-5
-returns-5 c = ?
+unfolding decoded
+returns-5 c = rw (c .match .keys5)
 
--- src/operation.rt:32:5
 returns-6 : tie.Need-returns-6
-returns-6 c = ?
+unfolding decoded
+returns-6 c = rw (c .match .keys6)
 
--- src/operation.rt:32:5
 returns-7 : tie.Need-returns-7
-returns-7 c = ?
+unfolding decoded
+returns-7 c = rw (c .match .keys7)
 
--- src/operation.rt:32:5
 returns-8 : tie.Need-returns-8
-returns-8 c = ?
+unfolding decoded
+returns-8 c = rw (c .match .keys8)
 
--- src/operation.rt:32:5
 returns-9 : tie.Need-returns-9
-returns-9 c = ?
+unfolding decoded
+returns-9 c = rw (c .match .keys9)
 
--- src/operation.rt:32:5
 returns-10 : tie.Need-returns-10
-returns-10 c = ?
+unfolding decoded
+returns-10 c = rw (c .match .keys10)
 
--- src/operation.rt:32:5
 returns-11 : tie.Need-returns-11
-returns-11 c = ?
+unfolding decoded
+returns-11 c = rw (c .match .keys11)
 
--- src/operation.rt:32:5
 returns-12 : tie.Need-returns-12
-returns-12 c = ?
+unfolding decoded
+returns-12 c = rw (c .match .keys12)
 
--- src/operation.rt:32:5
 returns-13 : tie.Need-returns-13
-returns-13 c = ?
+unfolding decoded
+returns-13 c = 
+    rw (
+      ne-eqb _ _ (c .match .rest .0 .0 .0 .0 .0 .0 .0 .0 .0 .0 .0 .1),
+      ne-eqb _ _ (c .match .rest .0 .0 .0 .0 .0 .0 .0 .0 .0 .0 .1),
+      ne-eqb _ _ (c .match .rest .0 .0 .0 .0 .0 .0 .0 .0 .0 .1),
+      ne-eqb _ _ (c .match .rest .0 .0 .0 .0 .0 .0 .0 .0 .1),
+      ne-eqb _ _ (c .match .rest .0 .0 .0 .0 .0 .0 .0 .1),
+      ne-eqb _ _ (c .match .rest .0 .0 .0 .0 .0 .0 .1),
+      ne-eqb _ _ (c .match .rest .0 .0 .0 .0 .0 .1),
+      ne-eqb _ _ (c .match .rest .0 .0 .0 .0 .1),
+      ne-eqb _ _ (c .match .rest .0 .0 .0 .1),
+      ne-eqb _ _ (c .match .rest .0 .0 .1),
+      ne-eqb _ _ (c .match .rest .0 .1),
+      ne-eqb _ _ (c .match .rest .1),
+    )
 
 pub of-spec : {M : Type 1} → statement M
 of-spec =
