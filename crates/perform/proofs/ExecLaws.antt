@@ -9,13 +9,14 @@ use Rattle.processor.specs.Prog.{Prog, done, _>>=_, Result, ended, broken, inte
 use Rattle.processor.specs.State.{permitted}
 use Rattle.processor.specs.declared.state.State.{State}
 use Rattle.processor.proofs.Laws.{continues, breaks}
-use Rattle.instructions.specs.Instruction.{wellFormed}
+use Rattle.instructions.specs.Instruction.{fits, wellFormed}
 use Rattle.instructions.specs.Permission.{hidden, shown}
 use Rattle.instructions.specs.Operation.{decoded}
 use Rattle.perform.specs.Codes.{program, codes}
 use Rattle.perform.specs.Exec.{InstructionSet, orWrss, operationOf, whole, exec, perform}
 use Rattle.perform.specs.Unhidden.{unhidden}
 use Rattle.instructions.specs.declared.instruction.Instruction.{Instruction}
+use Rattle.instructions.specs.declared.operation.Operation.{Operation}
 
 -- what is handed back, from what the operation handed back
 abbrev pub backFrom : State → Step → Step
@@ -43,10 +44,10 @@ pub performed : (set : InstructionSet) (look : Lookup) (i : Instruction) (s : St
 unfolding perform exec
 performed set look i s bytes e = rw e (put-back look (whole set i (permitted s) (hidden s)) s (hidden s) bytes)
 
--- the form of the built codes depends on the mode alone
-pub form-fits : (i : Instruction) (s : State) (t : Bool) → wellFormed i (s .mode) ≡ t → codes .fits i (hidden s) ≡ t
-unfolding hidden
-form-fits i s t e = e
+-- the form of the built codes depends on the mode alone, and its operation is decoded once
+pub form-fits : (i : Instruction) (s : State) (op : Operation) (t : Bool) → op ≡ decoded (i .code) → fits op i (s .mode) ≡ t → codes .fits i (hidden s) ≡ t
+unfolding hidden wellFormed
+form-fits i s op t d e = rw (← d) e
 
 -- of the built codes nothing precedes an instruction, and an operation is named by the code
 pub built-whole : (i : Instruction) (allowed : Bool) (s : State) → whole codes i allowed s ≡ orWrss (decoded (i .code)) i allowed s (program (decoded (i .code)) i s)

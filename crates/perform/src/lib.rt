@@ -89,6 +89,13 @@ pub fn perform(step: Instruction, state: State, pages: &[u64], bytes: &mut [u8])
     if !operation.fits(step, state.mode) {
         return state.refuse(Refusal::Instruction);
     }
-    let outcome = dispatch(operation, step, state.permitted(), hidden(state), pages, bytes);
+    let outcome = dispatch(
+        operation,
+        step,
+        state.permitted(),
+        hidden(state),
+        pages,
+        bytes,
+    );
     unhide(state, outcome)
 }

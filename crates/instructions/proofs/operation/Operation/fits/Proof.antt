@@ -25,7 +25,7 @@ mode-fits-requires c κs = search needs
 
 returns-3 : tie.Need-returns-3
 unfolding fits
-returns-3 c = 
+returns-3 c =
     rw (sym (c .before .before .before .before .words-fit .ensures) ∙ not-false _ (c .before .before .before .if1 .left), sym (c .before .before .length-fits .ensures) ∙ not-false _ (c .before .if2 .left))
     (c .mode-fits .ensures)
 
