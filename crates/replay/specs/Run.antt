@@ -31,6 +31,9 @@ pub record Input : Type 0 where
   pub bytes : List ℕ
   pub words : List ℕ
 
+abbrev pub inputOf : State → List ℕ → List ℕ → List ℕ → Input
+inputOf s pages bytes words = record { state = s; pages = pages; bytes = bytes; words = words }
+
 -- where its addresses lead
 abbrev pub lookOf : Input → Lookup
 lookOf given = lookupOf (given .pages) (given .bytes)

@@ -5,7 +5,7 @@ ghost use lib.ListN.{length};
 ghost use Rattle.memory.specs.Access.{lookupOf};
 ghost use Rattle.instructions.specs.Instruction.{instructionAt};
 ghost use Rattle.perform.specs.Codes.{codes};
-ghost use Rattle.replay.specs.Run.{run as runWith, runFrom, runOf};
+ghost use Rattle.replay.specs.Run.{inputOf, runFrom, runOf, replayed};
 use crate::steps::Tested;
 use crate::steps::check;
 use instructions::Instruction;
@@ -70,7 +70,7 @@ fn walk(state: State, pages: &[u64], bytes: &mut [u8], words: &[u64]) -> Replay
 
 // Runs a list from any state, page list, bytes and words whatever. A refusal given before any step leaves all as it was, with count 0.
 pub fn run(state: State, pages: &[u64], bytes: &mut [u8], words: &[u64]) -> Replay
-    ensures { λ r. ⌜ runOf r (now (bytes .exit)) ≡ runWith codes (now (pages .entry)) state (now (bytes .entry)) (now (words .entry)) ⌝ }
+    ensures { λ r. ⌜ runOf r (now (bytes .exit)) ≡ replayed (inputOf state (now (pages .entry)) (now (bytes .entry)) (now (words .entry))) ⌝ }
 {
     match check(pages, bytes.len(), state.in_range(), words.len()) {
         Tested::Failed(refusal) => Replay {

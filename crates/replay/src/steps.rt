@@ -1,12 +1,11 @@
 // What is tested of an input before any step, and one instruction by itself.
 ghost use mathlib.Core.Path.{_≡_};
 ghost use Rattle.processor.specs.Outcomes.{stepOf};
-ghost use Rattle.perform.specs.Codes.{codes};
-ghost use Rattle.replay.specs.Run.{badWords, check as checkOf, step as stepWith};
+ghost use Rattle.instructions.specs.Instruction.{alone};
+ghost use Rattle.replay.specs.Run.{inputOf, badWords, tested as testedOf, stepped};
 use instructions::Instruction;
 use memory::Listing;
 use perform::perform;
-use processor::Answer;
 use processor::Outcome;
 use processor::Refusal;
 use processor::State;
@@ -33,7 +32,7 @@ fn bad_words(words: usize) -> bool
 // Refusals 1, 2, 3, 4, 5 and 7, in this order: `good` is whether the state is in range, `lent` and `words` are how many bytes and
 // words there are.
 pub fn check(pages: &[u64], lent: usize, good: bool, words: usize) -> Tested
-    ensures { λ r. ⌜ r ≡ checkOf (now (pages .entry)) lent good words ⌝ }
+    ensures { λ r. ⌜ r ≡ testedOf (now (pages .entry)) lent good words ⌝ }
 {
     match Listing::of(pages, lent) {
         Listing::BadLength => Tested::Failed(Refusal::Length),
@@ -54,13 +53,10 @@ pub fn check(pages: &[u64], lent: usize, good: bool, words: usize) -> Tested
 
 // One instruction on any state, page list and bytes, with every refusal that it can have.
 pub fn step(step: Instruction, state: State, pages: &[u64], bytes: &mut [u8]) -> Outcome
-    ensures { λ r. ⌜ stepOf r (now (bytes .exit)) ≡ stepWith codes (now (pages .entry)) step state (now (bytes .entry)) ⌝ }
+    ensures { λ r. ⌜ stepOf r (now (bytes .exit)) ≡ stepped (inputOf state (now (pages .entry)) (now (bytes .entry)) (alone step)) ⌝ }
 {
     match check(pages, bytes.len(), state.in_range(), 4) {
-        Tested::Failed(refusal) => Outcome {
-            answer: Answer::Refused(refusal),
-            state,
-        },
+        Tested::Failed(refusal) => state.refuse(refusal),
         Tested::Passed => perform(step, state, pages, bytes),
     }
 }

@@ -2,7 +2,7 @@
 use mathlib.Core.Path.{sym, _∙_}
 use borrow.Author.Needs.{needs}
 use Rattle.replay.proofs.runs.run.Tie as tie
-use Rattle.replay.specs.Run.{run}
+use Rattle.replay.specs.Run.{check, run}
 use Rattle.replay.proofs.runs.run.Statement.{statement}
 
 in-range-requires : tie.Need-in-range-requires
@@ -21,14 +21,14 @@ walk-requires : tie.Need-walk-requires
 walk-requires c κs = search needs
 
 returns : tie.Need-returns
-unfolding run
+unfolding run check
 returns c = rw (← c .before .before .before .before .in-range .ensures, sym (c .before .before .before .check .ensures) ∙ c .before .refusal .given .1)
 
 same-length : tie.Need-same-length
 same-length c = search needs
 
 returns-2 : tie.Need-returns-2
-unfolding run
+unfolding run check
 returns-2 c = rw (← c .before .before .before .before .before .before .before .in-range .ensures, sym (c .before .before .before .before .before .before .check .ensures) ∙ c .before .before .before .before .enum-told .given .1) (c .before .before .walk .ensures)
 
 pub run-spec : {M : Type 1} → statement M

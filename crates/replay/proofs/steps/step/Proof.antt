@@ -1,8 +1,9 @@
 -- `step` meets its contract: what is tested before any step, then one instruction. Assumes nothing.
 use mathlib.Core.Path.{sym, _∙_}
 use borrow.Author.Needs.{needs}
+use Rattle.instructions.specs.Instruction.{instructionAt}
 use Rattle.replay.proofs.steps.step.Tie as tie
-use Rattle.replay.specs.Run.{step}
+use Rattle.replay.specs.Run.{check, step}
 use Rattle.replay.proofs.steps.step.Statement.{statement}
 
 in-range-requires : tie.Need-in-range-requires
@@ -14,6 +15,9 @@ check-requires c κs = search needs
 enum-known-refusal : tie.Need-enum-known-refusal
 enum-known-refusal c = search needs
 
+refuse-requires : tie.Need-refuse-requires
+refuse-requires c κs = search needs
+
 enum-told : tie.Need-enum-told
 enum-told c = search needs
 
@@ -21,14 +25,14 @@ perform-requires : tie.Need-perform-requires
 perform-requires c κs = search needs
 
 returns : tie.Need-returns
-unfolding step
-returns c = rw (← c .before .before .before .before .in-range .ensures, sym (c .before .before .before .check .ensures) ∙ c .before .refusal .given .1)
+unfolding step check instructionAt
+returns c = rw (c .refuse .ensures, ← c .before .before .before .before .before .in-range .ensures, sym (c .before .before .before .before .check .ensures) ∙ c .before .before .refusal .given .1)
 
 same-length : tie.Need-same-length
 same-length c = search needs
 
 returns-2 : tie.Need-returns-2
-unfolding step
+unfolding step check instructionAt
 returns-2 c = rw (← c .before .before .before .before .before .before .before .in-range .ensures, sym (c .before .before .before .before .before .before .check .ensures) ∙ c .before .before .before .before .enum-told .given .1) (c .before .before .perform .ensures)
 
 pub step-spec : {M : Type 1} → statement M
@@ -38,6 +42,7 @@ step-spec =
     in-range-requires
     check-requires
     enum-known-refusal
+    refuse-requires
     enum-told
     perform-requires
     returns
