@@ -10,8 +10,7 @@ use Rattle.answers.specs.declared.answer.Answer.the-variants.{Completed, Refuse
 use Rattle.answers.specs.declared.answer.Report.{Report}
 use Rattle.processor.specs.declared.state.State.{State}
 use Rattle.processor.specs.Layout.{fields, stateOf, wordsOf}
-use Rattle.perform.specs.Codes.{codes}
-use Rattle.replay.specs.Run.{check, Run, run}
+use Rattle.replay.specs.Run.{Run, inputOf, tested, replayed}
 use Rattle.replay.specs.declared.steps.Tested.{Tested}
 use Rattle.replay.specs.declared.steps.Tested.the-variants.{Passed, Failed}
 
@@ -61,5 +60,5 @@ unfoldable pub crossed : List ℕ → List ℕ → List ℕ → List ℕ → Lis
 crossed state pages bytes words report =
     cond (ltb (length report) reportLength) (record { number = 8; state = state; bytes = bytes; report = report })
     (cond (eqb (length state) fields)
-    (ran report (run codes pages (stateOf state) bytes words))
-    (answered state bytes report 0 (testedAs (check pages (length bytes) false (length words)))))
+    (ran report (replayed (inputOf (stateOf state) pages bytes words)))
+    (answered state bytes report 0 (testedAs (tested pages (length bytes) false (length words)))))

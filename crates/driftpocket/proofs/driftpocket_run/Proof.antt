@@ -3,7 +3,8 @@ use borrow.Author.Needs.{needs}
 use borrow.Author.Tests.{eq-eqb, ne-eqb, lt-ltb, le-ltb}
 use Rattle.driftpocket.proofs.driftpocket_run.Tie as tie
 use Rattle.driftpocket.proofs.Laws.{over-exactly}
-use Rattle.driftpocket.specs.Crossing.{wordsOf, crossed}
+use Rattle.processor.specs.Layout.{wordsOf}
+use Rattle.driftpocket.specs.Crossing.{crossed}
 use Rattle.driftpocket.proofs.driftpocket_run.Statement.{statement}
 
 returns : tie.Need-returns
