@@ -3,22 +3,16 @@ ghost use mathlib.Core.Path.{_≡_};
 ghost use Rattle.memory.specs.Access.{lookupOf};
 ghost use Rattle.processor.specs.Prog.{interp, operate};
 ghost use Rattle.processor.specs.Outcomes.{stepOf};
-ghost use Rattle.ret.specs.Popped.{resultOf};
+ghost use Rattle.processor.specs.Popped.{resultOf};
 ghost use Rattle.ret.specs.Ret.{newSsp, ret};
 use call::in_code;
 use call::pushed;
 use call::runs_past;
 use memory::Loaded;
-use processor::Fault;
 use processor::Outcome;
+use processor::Popped;
 use processor::State;
 use processor::Vector;
-
-// The new SSP, or the fault on the way to it.
-enum Popped {
-    Top(u64),
-    Failed(Fault),
-}
 
 // Pops the shadow stack where it is enabled; what is popped must be the target.
 fn new_ssp(state: State, pages: &[u64], bytes: &[u8], target: u64) -> Popped

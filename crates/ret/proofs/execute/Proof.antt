@@ -6,8 +6,8 @@ use borrow.Author.Needs.{needs}
 use Rattle.memory.specs.Access.{lookupOf, load as loadAt}
 use Rattle.processor.specs.Accesses.{ordinary}
 use Rattle.call.specs.Call.{pushed, runsPast}
-use Rattle.ret.specs.Popped.{resultOf}
-use Rattle.ret.specs.declared.Popped.{Popped}
+use Rattle.processor.specs.Popped.{resultOf}
+use Rattle.processor.specs.declared.popped.Popped.{Popped}
 use Rattle.ret.proofs.RetWays.{stack-end, pop-blocked, frame-failed, outside, returned}
 use Rattle.ret.proofs.execute.Statement.{statement}
 use Rattle.ret.proofs.execute.Tie as tie
