@@ -49,12 +49,11 @@ pub fn execute(state: State, pages: &[u64], bytes: &[u8], count: u64) -> Outcome
         Loaded::Value(target) => match new_ssp(state, pages, bytes, target) {
             Popped::Failed(fault) => state.fail(fault),
             Popped::Top(ssp) => {
-                let sp = state.plus(state.plus(state.sp, size.bytes()), count);
-                let returned = state.with_sp(sp).with_ssp(ssp);
                 if !in_code(state, target) {
                     return state.fail(processor::fault(Vector::Protection));
                 }
-                returned.complete(target)
+                let sp = state.plus(state.plus(state.sp, size.bytes()), count);
+                state.transfer(sp, ssp, target)
             }
         },
     }
