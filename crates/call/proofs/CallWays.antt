@@ -1,96 +1,71 @@
 -- The ways through near CALL, each by the tests and stores on it. Assumes nothing.
 use Prim.Native.Nat.{ℕ}
-use mathlib.Core.Path.{_≡_, _∙_, ap}
+use mathlib.Core.Path.{_≡_, refl, _∙_, ap}
 use mathlib.Core.Bool.{Bool, true, false, not, cond}
-use mathlib.Core.List.{List}
-use Rattle.memory.specs.Access.{byteCount, probe, written}
+use mathlib.Core.List.{List, [], _∷_}
+use Rattle.memory.specs.Access.{byteCount}
 use Rattle.pages.specs.Pages.{Lookup}
 use Rattle.memory.specs.declared.access.Access.{Access}
 use Rattle.memory.specs.declared.access.Failure.{Failure}
-use Rattle.memory.specs.declared.access.Reach.the-variants.{Ready, Blocked}
+use Rattle.stores.specs.Stores.{tryAll, writtenAll}
+use Rattle.stores.specs.declared.Slot.{Slot}
+use Rattle.stores.specs.declared.Slot.the-variants.{Empty, Store}
+use Rattle.stores.specs.declared.Stored.the-variants.{AllStored, NoneStored}
 use Rattle.answers.specs.Answer.{ss, gp}
 use Rattle.processor.specs.State.{minus, next}
 use Rattle.processor.specs.Layout.{withIp, withSp, withSsp}
 use Rattle.processor.specs.Accesses.{shadow, ordinary}
 use Rattle.answers.specs.Blame.{blame}
 use Rattle.processor.specs.Outcomes.{completed, faulted, stepOf}
-use Rattle.processor.specs.Prog.{Prog, _>>=_, _>>_, ended, broken, store, storeBoth, onlyIf, interp, operate}
-use Rattle.answers.specs.declared.answer.Fault.{Fault}
+use Rattle.processor.specs.Prog.{Prog, done, _>>=_, _>>_, store, onlyIf, interp, operate}
 use Rattle.processor.specs.declared.state.State.{State}
-use Rattle.processor.proofs.Laws.{passed, halted, skipped, stored, not-stored, continues, breaks, completes, faults}
+use Rattle.processor.proofs.Laws.{passed, halted, putAll, all-stored, none-stored, completes, faults}
 use Rattle.call.specs.Call.{inCode, pushed, runsPast, pushesFrame, call}
+use Rattle.call.specs.Frame.{newSsp, frameOf}
 
--- a store and a conditional one, where the test passes, are two stores
-two-stores : (look : Lookup) (bytes : List ℕ) {A : Type 0} (a : Access) (u : ℕ) (t : Bool) (b : Access) (v : ℕ) (p : Prog A) → t ≡ true
-    → interp look (store a u >> (onlyIf t (store b v) >> p)) bytes ≡ interp look (storeBoth a u b v >> p) bytes
-unfolding _>>=_
-two-stores look bytes a u t b v p e = rw e
+-- SP after the push
+abbrev pub newSp : State → ℕ
+newSp s = minus s (s .sp) (byteCount (pushed s))
+
+-- the pushes as the code has them: on the ordinary stack, and on the shadow stack if the call makes a frame there
+abbrev pub pushes : Bool → ℕ → State → List Slot
+pushes framed span s =
+    Store (ordinary s (newSp s) (pushed s) true) (next s span) ∷ frameOf s framed (next s span) .slot ∷ Empty ∷ Empty ∷ Empty ∷ Empty ∷ Empty ∷ Empty ∷ []
+
+-- a store and a conditional one, as a list
+as-list : (look : Lookup) (bytes : List ℕ) {A : Type 0} (a : Access) (u : ℕ) (t : Bool) (b : Access) (v : ℕ) (rest : List Slot) (p : Prog A)
+    → interp look (store a u >> (onlyIf t (store b v) >> p)) bytes ≡ interp look (putAll (Store a u ∷ cond t (Store b v) Empty ∷ Empty ∷ rest) >> p) bytes
+unfolding _>>=_ putAll
+as-list look bytes a u true b v rest p = refl
+as-list look bytes a u false b v rest p = refl
 
 module _ (look : Lookup) (bytes : List ℕ) (target : ℕ) (framed : Bool) (span : ℕ) (s : State) where
-  -- SP and SSP after the pushes, and the two pushes
-  abbrev pub newSp : ℕ
-  newSp = minus s (s .sp) (byteCount (pushed s))
-
-  abbrev pub newSsp : ℕ
-  newSsp = minus s (s .ssp) (byteCount (pushed s))
-
-  abbrev pub stackPush : Access
-  stackPush = ordinary s newSp (pushed s) true
-
-  abbrev pub shadowPush : Access
-  shadowPush = shadow s newSsp (pushed s) true
-
-  -- the state after the call, with a frame or without
-  abbrev called : Bool → State
-  called t = withIp (withSsp (withSp s newSp) (cond t newSsp (s .ssp))) target
-
   pub outside : inCode s target ≡ false → operate look (call target framed span s) s bytes ≡ stepOf (faulted s gp) bytes
   unfolding call
   outside e = faults look _ s bytes gp (halted look bytes (inCode s target) gp _ e)
 
   module _ (inside : inCode s target ≡ true) where
-    pub stack-end : runsPast s newSp ≡ true → operate look (call target framed span s) s bytes ≡ stepOf (faulted s ss) bytes
+    pub stack-end : runsPast s (newSp s) ≡ true → operate look (call target framed span s) s bytes ≡ stepOf (faulted s ss) bytes
     unfolding call
-    stack-end e = faults look _ s bytes ss (passed look bytes (inCode s target) gp _ inside ∙ halted look bytes (not (runsPast s newSp)) ss _ (ap not e))
+    stack-end e = faults look _ s bytes ss (passed look bytes (inCode s target) gp _ inside ∙ halted look bytes (not (runsPast s (newSp s))) ss _ (ap not e))
 
-    module _ (fits : runsPast s newSp ≡ false) where
-      module _ (off : pushesFrame s framed ≡ false) where
-        pub push-blocked : (failure : Failure) → probe look stackPush ≡ Blocked failure → operate look (call target framed span s) s bytes ≡ stepOf (faulted s (blame stackPush failure)) bytes
-        unfolding call
-        push-blocked failure e =
-            faults look _ s bytes _
-            (passed look bytes (inCode s target) gp _ inside
-            ∙ passed look bytes (not (runsPast s newSp)) ss _ (ap not fits)
-            ∙ not-stored look bytes stackPush (next s span) _ failure e)
+    module _ (fits : runsPast s (newSp s) ≡ false) where
+      -- the state after the call
+      abbrev called : State
+      called = withIp (withSsp (withSp s (newSp s)) (frameOf s framed (next s span) .ssp)) target
 
-        pub push-done : probe look stackPush ≡ Ready → operate look (call target framed span s) s bytes ≡ stepOf (completed (withSp s newSp) target) (written look stackPush (next s span) bytes)
-        unfolding call interp
-        push-done e =
-            completes look _ s bytes _ _
-            (passed look bytes (inCode s target) gp _ inside
-            ∙ passed look bytes (not (runsPast s newSp)) ss _ (ap not fits)
-            ∙ stored look bytes stackPush (next s span) _ e
-            ∙ skipped look _ (pushesFrame s framed) _ _ off
-            ∙ ap (λ (t : Bool). ended (called t) (written look stackPush (next s span) bytes)) off)
+      past-tests : interp look (call target framed span s) bytes ≡ interp look (putAll (pushes framed span s) >> done called) bytes
+      unfolding call frameOf
+      past-tests =
+          passed look bytes (inCode s target) gp _ inside
+          ∙ passed look bytes (not (runsPast s (newSp s))) ss _ (ap not fits)
+          ∙ as-list look bytes (ordinary s (newSp s) (pushed s) true) (next s span) (pushesFrame s framed) (shadow s (newSsp s) (pushed s) true) (next s span) _ (done called)
 
-      module _ (on : pushesFrame s framed ≡ true) where
-        pub frame-failed : (fault : Fault) → interp look (storeBoth stackPush (next s span) shadowPush (next s span)) bytes ≡ broken fault
-            → operate look (call target framed span s) s bytes ≡ stepOf (faulted s fault) bytes
-        unfolding call
-        frame-failed fault e =
-            faults look _ s bytes _
-            (passed look bytes (inCode s target) gp _ inside
-            ∙ passed look bytes (not (runsPast s newSp)) ss _ (ap not fits)
-            ∙ two-stores look bytes stackPush (next s span) (pushesFrame s framed) shadowPush (next s span) _ on
-            ∙ breaks look _ (storeBoth stackPush (next s span) shadowPush (next s span)) bytes fault e)
+      pub not-pushed : (a : Access) (failure : Failure) → tryAll look (pushes framed span s) ≡ NoneStored a failure
+          → operate look (call target framed span s) s bytes ≡ stepOf (faulted s (blame a failure)) bytes
+      not-pushed a failure e = faults look _ s bytes _ (past-tests ∙ none-stored look (done called) (pushes framed span s) bytes a failure e)
 
-        pub frame-done : (after : List ℕ) → interp look (storeBoth stackPush (next s span) shadowPush (next s span)) bytes ≡ ended tt after
-            → operate look (call target framed span s) s bytes ≡ stepOf (completed (withSsp (withSp s newSp) newSsp) target) after
-        unfolding call interp
-        frame-done after e =
-            completes look _ s bytes _ after
-            (passed look bytes (inCode s target) gp _ inside
-            ∙ passed look bytes (not (runsPast s newSp)) ss _ (ap not fits)
-            ∙ two-stores look bytes stackPush (next s span) (pushesFrame s framed) shadowPush (next s span) _ on
-            ∙ continues look _ (storeBoth stackPush (next s span) shadowPush (next s span)) bytes tt after e
-            ∙ ap (λ (t : Bool). ended (called t) after) on)
+      pub pushed-all : tryAll look (pushes framed span s) ≡ AllStored
+          → operate look (call target framed span s) s bytes ≡ stepOf (completed (withSsp (withSp s (newSp s)) (frameOf s framed (next s span) .ssp)) target) (writtenAll look (pushes framed span s) bytes)
+      unfolding interp
+      pushed-all e = completes look _ s bytes _ _ (past-tests ∙ all-stored look (done called) (pushes framed span s) bytes e)

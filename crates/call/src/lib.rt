@@ -3,13 +3,20 @@ ghost use mathlib.Core.Path.{_≡_};
 ghost use Rattle.memory.specs.Access.{lookupOf};
 ghost use Rattle.processor.specs.Prog.{operate};
 ghost use Rattle.processor.specs.Outcomes.{stepOf};
+ghost use Rattle.call.specs.Frame.{frameOf};
 ghost use Rattle.call.specs.Call.{displacement as displacementOf, moved as movedOf, relative as relativeOf, inCode, pushed as pushedOf, runsPast, displaced as displacedOf, pushesFrame, call};
-use memory::Reach;
 use memory::Size;
 use processor::Outcome;
 use processor::State;
 use processor::Vector;
+use stores::Slot;
 use stores::Stored;
+
+// The push on the shadow stack, if there is one, and SSP after the call.
+struct Frame {
+    slot: Slot,
+    ssp: u64,
+}
 
 // The displacement as a signed number: the low 32 bits of the operand in two's complement.
 fn displacement(a: u64) -> i64
@@ -87,6 +94,24 @@ fn pushes_frame(state: State, framed: bool) -> bool
     if state.enabled() { framed } else { false }
 }
 
+// What the call does to the shadow stack: SSP after it is moved only where a frame is pushed.
+fn make_frame(state: State, framed: bool, next: u64) -> Frame
+    ensures { λ r. ⌜ r ≡ frameOf state framed next ⌝ }
+{
+    if !pushes_frame(state, framed) {
+        return Frame {
+            slot: Slot::Empty,
+            ssp: state.ssp,
+        };
+    }
+    let size = pushed(state);
+    let ssp = state.minus(state.ssp, size.bytes());
+    Frame {
+        slot: Slot::Store(state.shadow(ssp, size, true), next),
+        ssp,
+    }
+}
+
 // The call to a target, of a form that makes a shadow frame or of the one that does not; whoever calls this says which. A relative call
 // has the target that `relative` gives, and its form makes a frame where it is `displaced`; that of an absolute call always does.
 pub fn execute(
@@ -108,21 +133,13 @@ pub fn execute(
         return state.fail(processor::fault(Vector::Stack));
     }
     let next = state.next(span);
-    let stack = state.ordinary(sp, size, true);
-    let called = state.with_sp(sp);
-    if !pushes_frame(state, framed) {
-        return match stack.store(pages, bytes, next) {
-            Reach::Blocked(failure) => state.fail(processor::blame(stack, failure)),
-            Reach::Ready => called.complete(target),
-        };
-    }
-    let ssp = state.minus(state.ssp, size.bytes());
-    let shadow = state.shadow(ssp, size, true);
-    match stores::store_both(pages, bytes, stack, next, shadow, next) {
-        Stored::NoneStored(fault) => state.fail(fault),
-        Stored::AllStored => {
-            let on_both = called.with_ssp(ssp);
-            on_both.complete(target)
-        }
+    let frame = make_frame(state, framed, next);
+    let slot = frame.slot;
+    let mut slots = [Slot::Empty; 8];
+    slots[0] = Slot::Store(state.ordinary(sp, size, true), next);
+    slots[1] = slot;
+    match stores::store_all(slots, pages, bytes) {
+        Stored::NoneStored(access, failure) => state.fail(processor::blame(access, failure)),
+        Stored::AllStored => state.transfer(sp, frame.ssp, target),
     }
 }

@@ -3,6 +3,9 @@
 -- By what trying an access finds:
 --     load-done, load-failed, loaded-value, loaded-failure   what a load gives, and back
 --     store-done, store-failed                               what a store leaves
+-- By where an access lies:
+--     told                                                   what trying it finds
+--     placed-written                                         bytes stored at its place are what it leaves
 -- What a store leaves:
 --     value-written                                          a load of it gives the value's low bytes back
 --     written-elsewhere                                      every other address holds what it held
@@ -27,6 +30,6 @@ pub use Rattle.memory.proofs.Answers.{load-done, load-failed, loaded-va
 pub use Rattle.memory.proofs.Stored.{value-written, written-elsewhere}
 pub use Rattle.memory.proofs.TwoMemories.{length-written, length-stored}
 pub use Rattle.memory.proofs.Lookup.{lookup-places, lookup-kept}
-pub use Rattle.memory.proofs.OnePage.{first-byte-decides, one-page-exactly}
+pub use Rattle.memory.proofs.OnePage.{first-byte-decides, one-page-exactly, told, placed-written}
 pub use Rattle.memory.proofs.TwoMemories.{ready-in-second, same-value, same-load, store-in-both, not-canonical, alike-probe, alike-load}
 pub use Rattle.memory.proofs.PageLists.{pages-extend, extends-pages, order-free}

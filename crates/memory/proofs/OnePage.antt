@@ -6,13 +6,13 @@ use mathlib.Core.Path.{_≡_, refl, sym, _∙_, ap, ap₂}
 use mathlib.Core.Bool.{Bool, true, false, cond}
 use mathlib.Core.List.{List, [], _∷_}
 use native.Mathlib.Omega.{arith}
-use lib.ListN.{set}
+use lib.ListN.{length, set}
 use lib.Dec.{ltb, leb}
-use borrow.Author.Tests.{leb-true, leb-false}
+use borrow.Author.Tests.{leb-true, leb-false, le-leb, le-ltb, lt-ltb}
 use Rattle.pages.specs.Address.{plus, canonical}
 use Rattle.pages.specs.Pages.{Lookup, pageBytes, pageOf, kindOf, onPage, inPage, spotFrom, spot}
-use Rattle.memory.specs.Access.{kindNumber, byteCount, andThen, scan, canonicalByte, listedByte, start, canonicalBytes, listedBytes, probe, byteIn, number, value, load, write, written, store}
-use Rattle.memory.specs.OnePage.{onePage, further, OnLentPage, locatedIf, within, located, firstReach, firstLocated, numberAt, putAt}
+use Rattle.memory.specs.Access.{lookupOf, kindNumber, byteCount, andThen, scan, canonicalByte, listedByte, start, canonicalBytes, listedBytes, probe, byteIn, number, value, load, write, written, store}
+use Rattle.memory.specs.OnePage.{onePage, further, OnLentPage, locatedIf, within, located, firstReach, firstLocated, numberAt, putAt, onLentPage, storeAt}
 use Rattle.pages.specs.declared.address.Width.{Width}
 use Rattle.pages.specs.declared.address.Width.the-variants.{Bits32, Bits64}
 use Rattle.pages.specs.declared.pages.Spot.{Spot}
@@ -259,3 +259,34 @@ module _ (pages : List ℕ) (lent : ℕ) (a : Access) (place : ℕ) (placed : Pl
   store-placed v bytes =
       store-done (spot pages lent) bytes a v (placed .ready)
       ∙ write-row (spot pages lent) (a .width) (start a) (byteCount (a .size)) v (placed .kind) place bytes its-row
+
+-- ---- bytes stored at any place
+
+pub lies-on-page : (lent place n : ℕ) → place / pageBytes < lent / pageBytes → onePage place n ≡ true → OnLentPage lent place n
+unfolding onePage
+lies-on-page lent place n whole one = record { lent-whole = omega arith; inside = leb-true _ _ one }
+
+module _ (bytes : List ℕ) (place n v : ℕ) where
+  pub page-not-lent : length bytes / pageBytes ≤ place / pageBytes → storeAt place n v bytes ≡ bytes
+  unfolding storeAt onLentPage
+  page-not-lent h = rw (le-ltb (place / pageBytes) (length bytes / pageBytes) h)
+
+  module _ (lent : place / pageBytes < length bytes / pageBytes) where
+    pub runs-off-page : onePage place n ≡ false → storeAt place n v bytes ≡ bytes
+    unfolding storeAt onLentPage
+    runs-off-page over = rw (lt-ltb (place / pageBytes) (length bytes / pageBytes) lent, over)
+
+    pub stored-on-page : onePage place n ≡ true → storeAt place n v bytes ≡ putAt place n v bytes
+    unfolding storeAt onLentPage
+    stored-on-page one = rw (lt-ltb (place / pageBytes) (length bytes / pageBytes) lent, one)
+
+-- at the place that `located` tells of an access, that is what the access leaves
+pub placed-written : (pages bytes : List ℕ) (a : Access) (place : ℕ) → located (lookupOf pages bytes) a ≡ Within place
+    → (v : ℕ) (now : List ℕ) → length now ≡ length bytes → storeAt place (byteCount (a .size)) v now ≡ written (lookupOf pages bytes) a v now
+unfolding lookupOf onePage
+placed-written pages bytes a place e v now kept =
+    let placed = told (spot pages (length bytes)) a (Within place) (sym e) in
+    let on = on-lent-page pages (length bytes) a place placed in
+    stored-on-page now place (byteCount (a .size)) v (omega arith) (le-leb _ _ (on .inside))
+    ∙ sym (store-placed pages (length bytes) a place placed v now)
+    ∙ store-done (spot pages (length bytes)) now a v (placed .ready)

@@ -2,10 +2,10 @@
 -- a reader of the promises: the theorem `first-byte-decides` (proofs/OnePage.antt) is stated by them. The others serve the contracts of
 -- private functions. Assumes nothing.
 use Prim.Native.Nat.{ℕ, zero, suc, _+_, _-_, _*_, _/_, _%_, _≤_}
-use mathlib.Core.Bool.{Bool, true, cond}
+use mathlib.Core.Bool.{Bool, true, cond, _&&_}
 use mathlib.Core.List.{List}
-use lib.ListN.{getD, set}
-use lib.Dec.{leb}
+use lib.ListN.{length, getD, set}
+use lib.Dec.{ltb, leb}
 use Rattle.pages.specs.Address.{canonical}
 use Rattle.pages.specs.Pages.{Lookup, pageBytes}
 use Rattle.memory.specs.Access.{kindNumber, byteCount, listedByte, start, probe}
@@ -73,3 +73,11 @@ numberAt bytes place (suc n) = getD bytes place 0 + 256 * numberAt bytes (suc pl
 unfoldable pub putAt : ℕ → ℕ → ℕ → List ℕ → List ℕ
 putAt place zero v bytes = bytes
 putAt place (suc n) v bytes = putAt (suc place) n (v / 256) (set bytes place (v % 256))
+
+-- n bytes from a place on lie on one page, and that is lent whole
+unfoldable pub onLentPage : ℕ → ℕ → ℕ → Bool
+onLentPage lent place n = ltb (place / pageBytes) (lent / pageBytes) && onePage place n
+
+-- the same bytes, written where they lie on one lent page, else none of them
+unfoldable pub storeAt : ℕ → ℕ → ℕ → List ℕ → List ℕ
+storeAt place n v bytes = cond (onLentPage (length bytes) place n) (putAt place n v bytes) bytes

@@ -5,7 +5,6 @@ ghost use Rattle.pages.specs.Address.{wrapped};
 ghost use Rattle.pages.specs.Pages.{spot};
 ghost use Rattle.memory.specs.Access.{kindNumber, byteCount, isReady, scan, canonicalBytes, probe as probeOf};
 ghost use Rattle.memory.specs.Search.{byteTest};
-use crate::one_page::Located;
 use pages::Spot;
 use pages::Width;
 use pages::canonical;
@@ -164,16 +163,5 @@ impl Access {
         let size = self.size;
         let asked = Asked::OnKind(kind.number());
         test_bytes(pages, lent, asked, width, self.first, size.bytes())
-    }
-
-    // Whether the access can be done, where `lent` bytes are lent for these pages.
-    pub fn probe(self, pages: &[u64], lent: usize) -> Reach
-        ensures { λ r. ⌜ r ≡ probeOf (spot (now (pages .entry)) lent) self ⌝ }
-    {
-        match self.locate(pages, lent) {
-            Located::Within(_) => Reach::Ready,
-            Located::Across => Reach::Ready,
-            Located::Blocked(failure) => Reach::Blocked(failure),
-        }
     }
 }

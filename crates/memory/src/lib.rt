@@ -13,6 +13,8 @@ pub use access::Kind;
 pub use access::Reach;
 pub use access::Size;
 pub use load::Loaded;
+pub use one_page::Located;
+pub use one_page::store_at;
 pub use pages::Listing;
 pub use pages::PAGE_BYTES;
 pub use pages::PAGE_LIMIT;

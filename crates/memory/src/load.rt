@@ -56,7 +56,7 @@ impl Access {
         ensures { λ r. ⌜ r ≡ loadOf (lookupOf (now (pages .entry)) (now (bytes .entry))) (now (bytes .entry)) self ⌝ }
     {
         let size = self.size;
-        match self.locate(pages, bytes.len()) {
+        match self.locate(pages, bytes) {
             Located::Within(place) => Loaded::Value(load_within(bytes, place, size)),
             Located::Across => {
                 let width = self.width;

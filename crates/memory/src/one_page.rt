@@ -4,8 +4,8 @@ ghost use mathlib.Core.Path.{_≡_};
 ghost use Prim.Native.Nat.{_+_, _^_, _≤_, _<_};
 ghost use lib.ListN.{length, getD};
 ghost use Rattle.pages.specs.Pages.{spot};
-ghost use Rattle.memory.specs.Access.{byteCount, onKind};
-ghost use Rattle.memory.specs.OnePage.{onePage, allowed, locatedIf, within, located, firstLocated, OnLentPage, numberAt, putAt};
+ghost use Rattle.memory.specs.Access.{lookupOf, byteCount, onKind};
+ghost use Rattle.memory.specs.OnePage.{onePage, allowed, locatedIf, within, located, firstLocated, OnLentPage, numberAt, putAt, storeAt};
 use crate::access::Access;
 use crate::access::Failure;
 use crate::access::Reach;
@@ -16,7 +16,7 @@ use pages::canonical;
 use pages::find;
 
 // What trying an access finds, and where it lies.
-pub(crate) enum Located {
+pub enum Located {
     // It can be done, and all its bytes lie on one page, the first at this place.
     Within(usize),
     // It can be done, on two pages.
@@ -73,16 +73,16 @@ impl Access {
         on_kind(kind.number(), first, find(pages, lent, first))
     }
 
-    // Tries the access: by its first byte where all lie on one page, else byte by byte.
-    pub(crate) fn locate(self, pages: &[u64], lent: usize) -> Located
-        ensures { λ r. ⌜ r ≡ located (spot (now (pages .entry)) lent) self ⌝ }
+    // Tries the access: by its first byte where all lie on one page, else byte by byte. No byte is looked at, only how many are lent.
+    pub fn locate(self, pages: &[u64], bytes: &[u8]) -> Located
+        ensures { λ r. ⌜ r ≡ located (lookupOf (now (pages .entry)) (now (bytes .entry))) self ⌝ }
     {
         let width = self.width;
         let size = self.size;
         if one_page(width.wrap(self.first), size.bytes()) {
-            return self.locate_first(pages, lent);
+            return self.locate_first(pages, bytes.len());
         }
-        match self.try_each(pages, lent) {
+        match self.try_each(pages, bytes.len()) {
             Reach::Ready => Located::Across,
             Reach::Blocked(failure) => Located::Blocked(failure),
         }
@@ -161,4 +161,16 @@ pub(crate) fn store_within(bytes: &mut [u8], place: usize, size: Size, value: u6
     let start = place - at;
     let end = start + PAGE_BYTES;
     put_on(&mut bytes[start..end], at, size, value);
+}
+
+// Writes the low bytes of a value at any place: nothing unless they all lie on one page, and that is lent whole.
+pub fn store_at(bytes: &mut [u8], place: usize, size: Size, value: u64)
+    ensures { λ _. ⌜ now (bytes .exit) ≡ storeAt place (byteCount size) value (now (bytes .entry)) ⌝ }
+{
+    if place / PAGE_BYTES >= bytes.len() / PAGE_BYTES {
+        return;
+    }
+    if one_page(place as u64, size.bytes()) {
+        store_within(bytes, place, size, value);
+    }
 }

@@ -59,7 +59,7 @@ impl Access {
         ensures { λ _. ⌜ now (bytes .exit) ≡ storeOf (lookupOf (now (pages .entry)) (now (bytes .entry))) self value (now (bytes .entry)) ⌝ }
     {
         let size = self.size;
-        match self.locate(pages, bytes.len()) {
+        match self.locate(pages, bytes) {
             Located::Within(place) => {
                 store_within(bytes, place, size, value);
                 Reach::Ready

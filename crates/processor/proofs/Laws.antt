@@ -5,14 +5,14 @@
 --     loaded, not-loaded      `load`, by what the memory's load gave
 --     touched, not-touched    `touch`, likewise
 --     stored, not-stored      `store`, by what trying gave
---     first-blocked, second-blocked, both-stored, none-stored, all-stored    two stores
+--     all-stored, none-stored    stores given as a list, `putAll`, by what trying them gave
 --     continues, breaks       one program after another, by how the first ends
 --     completes, faults       a whole operation, by how its program ends
 --     some-bytes, long-small, product    small numbers
 use Prim.Native.Nat.{ℕ, _*_, _^_, _<_, _≤_}
 use mathlib.Core.Path.{_≡_, refl, _∙_, ap}
 use mathlib.Core.Bool.{Bool, true, false, cond}
-use mathlib.Core.List.{List}
+use mathlib.Core.List.{List, [], _∷_}
 use native.Mathlib.Omega.{arith}
 use Rattle.memory.specs.Access.{byteCount, probe, value, written, load as loadAt}
 use Rattle.pages.specs.Pages.{Lookup}
@@ -24,8 +24,13 @@ use Rattle.memory.specs.declared.access.Size.{Size}
 use Rattle.memory.specs.declared.access.Size.the-variants.{Four, Eight}
 use Rattle.memory.specs.declared.load.Loaded.the-variants.{Value, Blocked as Unloaded}
 use Rattle.memory.proofs.Laws.{loaded-value, loaded-failure}
+use Rattle.stores.specs.Stores.{orElse, tryAll, writtenAll}
+use Rattle.stores.specs.declared.Slot.{Slot}
+use Rattle.stores.specs.declared.Slot.the-variants.{Empty, Store}
+use Rattle.stores.specs.declared.Stored.{Stored}
+use Rattle.stores.specs.declared.Stored.the-variants.{AllStored, NoneStored}
 use Rattle.answers.specs.Blame.{blame}
-use Rattle.processor.specs.Prog.{Prog, done, stop, fetch, put, _>>=_, _>>_, load, touch, store, storeBoth, unless, onlyIf, Result, ended, broken, onReach, left, interp, operate}
+use Rattle.processor.specs.Prog.{Prog, done, stop, fetch, put, _>>=_, _>>_, load, touch, store, unless, onlyIf, Result, ended, broken, onReach, interp, operate}
 use Rattle.processor.specs.State.{isLong, longBit}
 use Rattle.answers.specs.declared.answer.Answer.the-variants.{Completed, Faulted}
 use Rattle.answers.specs.declared.answer.Fault.{Fault}
@@ -109,19 +114,39 @@ module _ (look : Lookup) {A B : Type 0} (f : A → Prog B) where
   unfolding after
   breaks p bytes fault e = bind p bytes ∙ ap after e
 
--- ---- two stores
+-- ---- stores, given as a list
 
-module _ (look : Lookup) (bytes : List ℕ) (first : Access) (u : ℕ) (second : Access) (v : ℕ) where
-  pub first-blocked : (failure : Failure) → probe look first ≡ Blocked failure → interp look (storeBoth first u second v) bytes ≡ broken (blame first failure)
-  first-blocked failure e = not-stored look bytes first u (store second v) failure e
+-- the stores of a list, one after the other
+unfoldable pub putAll : List Slot → Prog (Unit {0})
+putAll [] = done tt
+putAll (Empty ∷ rest) = done tt
+putAll (Store a v ∷ rest) = put a v (putAll rest)
 
-  pub second-blocked : (failure : Failure) → probe look first ≡ Ready → probe look second ≡ Blocked failure → interp look (storeBoth first u second v) bytes ≡ broken (blame second failure)
-  unfolding interp
-  second-blocked failure r e = stored look bytes first u (store second v) r ∙ rw e
+-- how a program ends that begins with stores, by what trying them found
+onStored : {A : Type 0} → Stored → Result A → Result A
+onStored AllStored go = go
+onStored (NoneStored a failure) go = broken (blame a failure)
 
-  pub both-stored : probe look first ≡ Ready → probe look second ≡ Ready → interp look (storeBoth first u second v) bytes ≡ ended tt (written look second v (written look first u bytes))
-  unfolding interp
-  both-stored r e = stored look bytes first u (store second v) r ∙ rw e
+module _ (look : Lookup) {A : Type 0} (p : Prog A) where
+  all-tried : (slots : List Slot) (bytes : List ℕ) → interp look (putAll slots >> p) bytes ≡ onStored (tryAll look slots) (interp look p (writtenAll look slots bytes))
+  unfolding _>>=_ interp putAll onStored tryAll writtenAll
+  all-tried [] bytes = refl
+  all-tried (Empty ∷ rest) bytes = refl
+  all-tried (Store a v ∷ rest) bytes = go (probe look a) (tryAll look rest) (interp look p (writtenAll look rest (written look a v bytes))) (all-tried rest (written look a v bytes))
+    where
+      go : (r : Reach) (later : Stored) {before : Result A} (after : Result A) → before ≡ onStored later after → onReach a r before ≡ onStored (orElse a r later) after
+      go Ready later after e = e
+      go (Blocked failure) later after e = refl
+
+  -- all can be made, and the rest goes on from the bytes that they leave
+  pub all-stored : (slots : List Slot) (bytes : List ℕ) → tryAll look slots ≡ AllStored → interp look (putAll slots >> p) bytes ≡ interp look p (writtenAll look slots bytes)
+  unfolding onStored
+  all-stored slots bytes e = all-tried slots bytes ∙ rw e
+
+  -- one cannot be made: the first of them gives the fault
+  pub none-stored : (slots : List Slot) (bytes : List ℕ) (a : Access) (failure : Failure) → tryAll look slots ≡ NoneStored a failure → interp look (putAll slots >> p) bytes ≡ broken (blame a failure)
+  unfolding onStored
+  none-stored slots bytes a failure e = all-tried slots bytes ∙ rw e
 
 -- ---- small numbers
 

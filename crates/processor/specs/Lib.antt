@@ -11,3 +11,4 @@ pub mod State
 pub mod Accesses
 pub mod Outcomes
 pub mod Prog
+pub mod Popped

@@ -45,10 +45,6 @@ touch a = fetch a (λ v. done tt)
 abbrev pub store : Access → ℕ → Prog (Unit {0})
 store a v = put a v (done tt)
 
--- two stores, one after the other
-abbrev pub storeBoth : Access → ℕ → Access → ℕ → Prog (Unit {0})
-storeBoth first u second v = store first u >> store second v
-
 -- the fault, unless the test passes
 abbrev pub unless : Bool → Fault → Prog (Unit {0})
 unless t fault = cond t (done tt) (stop fault)
@@ -73,11 +69,6 @@ interp look (done x) bytes = ended x bytes
 interp look (stop fault) bytes = broken fault
 interp look (fetch a k) bytes = onReach a (probe look a) (interp look (k (value look bytes a)) bytes)
 interp look (put a v p) bytes = onReach a (probe look a) (interp look p (written look a v bytes))
-
--- the bytes that are left: those from before where it broke off
-abbrev pub left : {A : Type 0} → Result A → List ℕ → List ℕ
-left (ended x after) before = after
-left (broken fault) before = before
 
 -- ---- one operation
 

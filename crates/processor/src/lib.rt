@@ -1,6 +1,7 @@
 // The processor: its state, and what its operations hand back.
 mod layout;
 mod outcome;
+mod popped;
 mod state;
 
 pub use answers::Answer;
@@ -14,4 +15,5 @@ pub use answers::fault;
 pub use layout::FIELDS;
 pub use layout::state_of;
 pub use outcome::Outcome;
+pub use popped::Popped;
 pub use state::State;

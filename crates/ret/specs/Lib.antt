@@ -1,2 +1,1 @@
 pub mod Ret
-pub mod Popped

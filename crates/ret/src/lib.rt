@@ -3,22 +3,16 @@ ghost use mathlib.Core.Path.{_≡_};
 ghost use Rattle.memory.specs.Access.{lookupOf};
 ghost use Rattle.processor.specs.Prog.{interp, operate};
 ghost use Rattle.processor.specs.Outcomes.{stepOf};
-ghost use Rattle.ret.specs.Popped.{resultOf};
+ghost use Rattle.processor.specs.Popped.{resultOf};
 ghost use Rattle.ret.specs.Ret.{newSsp, ret};
 use call::in_code;
 use call::pushed;
 use call::runs_past;
 use memory::Loaded;
-use processor::Fault;
 use processor::Outcome;
+use processor::Popped;
 use processor::State;
 use processor::Vector;
-
-// The new SSP, or the fault on the way to it.
-enum Popped {
-    Top(u64),
-    Failed(Fault),
-}
 
 // Pops the shadow stack where it is enabled; what is popped must be the target.
 fn new_ssp(state: State, pages: &[u64], bytes: &[u8], target: u64) -> Popped
@@ -55,12 +49,11 @@ pub fn execute(state: State, pages: &[u64], bytes: &[u8], count: u64) -> Outcome
         Loaded::Value(target) => match new_ssp(state, pages, bytes, target) {
             Popped::Failed(fault) => state.fail(fault),
             Popped::Top(ssp) => {
-                let sp = state.plus(state.plus(state.sp, size.bytes()), count);
-                let returned = state.with_sp(sp).with_ssp(ssp);
                 if !in_code(state, target) {
                     return state.fail(processor::fault(Vector::Protection));
                 }
-                returned.complete(target)
+                let sp = state.plus(state.plus(state.sp, size.bytes()), count);
+                state.transfer(sp, ssp, target)
             }
         },
     }

@@ -2,24 +2,29 @@
 use Prim.Native.Nat.{ℕ, _+_, _%_}
 use mathlib.Core.Path.{_≡_, _∙_, ap}
 use mathlib.Core.Bool.{true, false, not, _&&_}
-use mathlib.Core.List.{List}
+use mathlib.Core.List.{List, [], _∷_}
 use lib.Dec.{eqb}
 use borrow.Author.Tests.{eq-eqb, ne-eqb}
 use Rattle.memory.specs.Access.{load as loadAt}
 use Rattle.pages.specs.Pages.{Lookup}
+use Rattle.memory.specs.declared.access.Access.{Access}
 use Rattle.memory.specs.declared.access.Failure.{Failure}
 use Rattle.memory.specs.declared.access.Size.the-variants.{Four, Eight}
 use Rattle.memory.specs.declared.load.Loaded.the-variants.{Value, Blocked as Unloaded}
+use Rattle.stores.specs.Stores.{tryAll, writtenAll}
+use Rattle.stores.specs.declared.Slot.{Slot}
+use Rattle.stores.specs.declared.Slot.the-variants.{Empty, Store}
+use Rattle.stores.specs.declared.Stored.the-variants.{AllStored, NoneStored}
 use Rattle.answers.specs.Answer.{ud, gp}
 use Rattle.processor.specs.State.{isLong, longBit, usable, plus, minus, next}
-use Rattle.processor.specs.Layout.{withSsp}
+use Rattle.processor.specs.Layout.{withIp, withSsp}
 use Rattle.processor.specs.Accesses.{shadow}
 use Rattle.answers.specs.Blame.{blame}
 use Rattle.processor.specs.Outcomes.{completed, faulted, stepOf}
-use Rattle.processor.specs.Prog.{ended, broken, storeBoth, interp, settle, operate}
+use Rattle.processor.specs.Prog.{done, _>>=_, _>>_, ended, broken, interp, settle, operate}
 use Rattle.answers.specs.declared.answer.Fault.{Fault}
 use Rattle.processor.specs.declared.state.State.{State}
-use Rattle.processor.proofs.Laws.{passed, halted, loaded, not-loaded, continues, breaks, completes, faults}
+use Rattle.processor.proofs.Laws.{passed, halted, loaded, not-loaded, putAll, all-stored, none-stored, continues, breaks, completes, faults}
 use Rattle.bits.specs.Bits.{multiple}
 use Rattle.saveprevssp.specs.Saveprevssp.{carry, popHole, newTop, savedToken, leaveToken, saveprevssp}
 
@@ -52,6 +57,13 @@ module _ (look : Lookup) (bytes : List ℕ) (s : State) (top : ℕ) where
 
 -- ---- with the token popped
 
+-- what is left behind, as the code has it: the zero bytes and the restore token
+abbrev pub leftStores : ℕ → State → List Slot
+leftStores token s =
+    Store (shadow s (minus s (multiple 4 token) 4) Four true) 0
+    ∷ Store (shadow s (minus s (multiple 8 (multiple 4 token)) 8) Eight true) (multiple 4 token + longBit s)
+    ∷ Empty ∷ Empty ∷ Empty ∷ Empty ∷ Empty ∷ Empty ∷ []
+
 module _ (look : Lookup) (bytes : List ℕ) (token span : ℕ) (s : State) where
   pub top-failed : (fault : Fault) → interp look (newTop s (plus s (s .ssp) 8)) bytes ≡ broken fault → operate look (leaveToken token span s) s bytes ≡ stepOf (faulted s fault) bytes
   unfolding leaveToken
@@ -63,25 +75,18 @@ module _ (look : Lookup) (bytes : List ℕ) (token span : ℕ) (s : State) where
     not-saved e = faults look _ s bytes gp (continues look _ (newTop s (plus s (s .ssp) 8)) bytes top bytes t ∙ halted look bytes (savedToken s token) gp _ e)
 
     module _ (saved : savedToken s token ≡ true) where
-      pub not-left : (fault : Fault)
-          → interp look (storeBoth (shadow s (minus s (multiple 4 token) 4) Four true) 0 (shadow s (minus s (multiple 8 (multiple 4 token)) 8) Eight true) (multiple 4 token + longBit s)) bytes ≡ broken fault
-          → operate look (leaveToken token span s) s bytes ≡ stepOf (faulted s fault) bytes
-      unfolding leaveToken
-      not-left fault e =
-          faults look _ s bytes fault
-          (continues look _ (newTop s (plus s (s .ssp) 8)) bytes top bytes t
-          ∙ passed look bytes (savedToken s token) gp _ saved
-          ∙ breaks look _ (storeBoth (shadow s (minus s (multiple 4 token) 4) Four true) 0 (shadow s (minus s (multiple 8 (multiple 4 token)) 8) Eight true) (multiple 4 token + longBit s)) bytes fault e)
+      -- past the token's checks
+      past-checks : interp look (leaveToken token span s) bytes ≡ interp look (putAll (leftStores token s) >> done (withIp (withSsp s top) (next s span))) bytes
+      unfolding leaveToken _>>=_ putAll
+      past-checks = continues look _ (newTop s (plus s (s .ssp) 8)) bytes top bytes t ∙ passed look bytes (savedToken s token) gp _ saved
 
-      pub left-behind : (after : List ℕ)
-          → interp look (storeBoth (shadow s (minus s (multiple 4 token) 4) Four true) 0 (shadow s (minus s (multiple 8 (multiple 4 token)) 8) Eight true) (multiple 4 token + longBit s)) bytes ≡ ended tt after
-          → operate look (leaveToken token span s) s bytes ≡ stepOf (completed (withSsp s top) (next s span)) after
-      unfolding leaveToken interp
-      left-behind after e =
-          completes look _ s bytes _ after
-          (continues look _ (newTop s (plus s (s .ssp) 8)) bytes top bytes t
-          ∙ passed look bytes (savedToken s token) gp _ saved
-          ∙ continues look _ (storeBoth (shadow s (minus s (multiple 4 token) 4) Four true) 0 (shadow s (minus s (multiple 8 (multiple 4 token)) 8) Eight true) (multiple 4 token + longBit s)) bytes tt after e)
+      pub not-left : (a : Access) (failure : Failure) → tryAll look (leftStores token s) ≡ NoneStored a failure → operate look (leaveToken token span s) s bytes ≡ stepOf (faulted s (blame a failure)) bytes
+      not-left a failure e = faults look _ s bytes _ (past-checks ∙ none-stored look _ (leftStores token s) bytes a failure e)
+
+      pub left-behind : tryAll look (leftStores token s) ≡ AllStored
+          → operate look (leaveToken token span s) s bytes ≡ stepOf (completed (withSsp s top) (next s span)) (writtenAll look (leftStores token s) bytes)
+      unfolding interp
+      left-behind e = completes look _ s bytes _ _ (past-checks ∙ all-stored look _ (leftStores token s) bytes e)
 
 -- ---- the whole
 

@@ -1,2 +1,1 @@
 pub mod Saveprevssp
-pub mod Popped

@@ -7,7 +7,7 @@ use Rattle.answers.specs.Answer.{ud, gp}
 use Rattle.processor.specs.State.{isLong, longBit, usable, plus, minus, next}
 use Rattle.processor.specs.Layout.{withIp, withSsp}
 use Rattle.processor.specs.Accesses.{shadow}
-use Rattle.processor.specs.Prog.{Prog, done, _>>=_, _>>_, load, storeBoth, unless}
+use Rattle.processor.specs.Prog.{Prog, done, _>>=_, _>>_, load, store, unless}
 use Rattle.processor.specs.declared.state.State.{State}
 use Rattle.bits.specs.Bits.{bit, multiple}
 
@@ -40,7 +40,8 @@ leaveToken token span s =
     do
       top ← newTop s (plus s (s .ssp) 8)
       unless (savedToken s token) gp  -- #GP(0)
-      storeBoth (shadow s (minus s old 4) Four true) 0 (shadow s (minus s (multiple 8 old) 8) Eight true) (old + longBit s)
+      store (shadow s (minus s old 4) Four true) 0
+      store (shadow s (minus s (multiple 8 old) 8) Eight true) (old + longBit s)
       done (withIp (withSsp s top) (next s span))
 
 -- the whole operation: the previous-SSP token is popped, and a restore token left on the stack that it names

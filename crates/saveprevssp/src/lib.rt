@@ -4,20 +4,15 @@ ghost use Rattle.memory.specs.Access.{lookupOf};
 ghost use Rattle.processor.specs.Prog.{interp, operate};
 ghost use Rattle.processor.specs.Outcomes.{stepOf};
 ghost use Rattle.saveprevssp.specs.Saveprevssp.{carry as carryOf, popHole, newTop, savedToken, leaveToken, saveprevssp as saveprevsspOf};
-ghost use Rattle.saveprevssp.specs.Popped.{resultOf};
+ghost use Rattle.processor.specs.Popped.{resultOf};
 use memory::Loaded;
 use memory::Size;
-use processor::Fault;
 use processor::Outcome;
+use processor::Popped;
 use processor::State;
 use processor::Vector;
+use stores::Slot;
 use stores::Stored;
-
-// The new top of the stack, or the fault on the way to it.
-enum Popped {
-    Top(u64),
-    Failed(Fault),
-}
 
 // CF.
 fn carry(state: State) -> bool
@@ -82,12 +77,15 @@ fn leave_token(state: State, pages: &[u64], bytes: &mut [u8], token: u64, span: 
             let old = token - token % 4;
             let hole = state.shadow(state.minus(old, 4), Size::Four, true);
             let below = state.shadow(state.minus(old - old % 8, 8), Size::Eight, true);
-            match stores::store_both(pages, bytes, hole, 0, below, old + state.long_bit()) {
-                Stored::NoneStored(fault) => state.fail(fault),
-                Stored::AllStored => {
-                    let moved = state.with_ssp(top);
-                    moved.complete(state.next(span))
+            let restore = old + state.long_bit();
+            let mut slots = [Slot::Empty; 8];
+            slots[0] = Slot::Store(hole, 0);
+            slots[1] = Slot::Store(below, restore);
+            match stores::store_all(slots, pages, bytes) {
+                Stored::NoneStored(access, failure) => {
+                    state.fail(processor::blame(access, failure))
                 }
+                Stored::AllStored => state.shift(top, state.next(span)),
             }
         }
     }

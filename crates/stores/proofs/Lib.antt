@@ -1,1 +1,2 @@
-pub mod Laws
+-- Laws that belong to no one function.
+mod Turns

@@ -1,16 +1,15 @@
 -- `call::execute` meets its contract: each return cites the way through the definition that leads to it. Assumes nothing.
 use mathlib.Core.Path.{_≡_, sym, _∙_}
-use mathlib.Core.Bool.{true}
+use mathlib.Core.Bool.{true, false}
+use mathlib.Core.List.{List}
 use borrow.Author.Tests.{not-true, not-false}
 use borrow.Author.Needs.{needs}
-use Rattle.memory.specs.Access.{lookupOf, byteCount, probe}
-use Rattle.memory.proofs.Laws.{store-done, store-failed}
-use Rattle.stores.specs.Stored.{storedOf}
-use Rattle.processor.specs.Prog.{Result, interp, storeBoth, left}
-use Rattle.processor.specs.State.{minus, next}
-use Rattle.stores.proofs.Laws.{none-stored, all-stored}
-use Rattle.call.specs.Call.{inCode, pushed, runsPast}
-use Rattle.call.proofs.CallWays.{stackPush, shadowPush, outside, stack-end, push-blocked, push-done, frame-failed, frame-done}
+use Rattle.pages.specs.Pages.{Lookup}
+use Rattle.memory.specs.Access.{lookupOf}
+use Rattle.stores.specs.Stores.{tryAll, writtenAll, leftBy}
+use Rattle.stores.specs.declared.Slot.{Slot}
+use Rattle.call.specs.Call.{inCode, runsPast}
+use Rattle.call.proofs.CallWays.{newSp, pushes, outside, stack-end, not-pushed, pushed-all}
 use Rattle.call.proofs.execute.Statement.{statement}
 use Rattle.call.proofs.execute.Tie as tie
 
@@ -23,36 +22,40 @@ fault-requires c κs = search needs
 fail-requires : tie.Need-fail-requires
 fail-requires c κs = search needs
 
--- what is known after each test; the pushes as the definition has them
-is-inside : (c : tie.Else1) → inCode (c .before .before .before .before .args .state) (c .before .before .before .before .args .target) ≡ true
+-- the entry of the function, from the places that the facts below stand at
+abbrev from-test : tie.Else1 → tie.Start
+from-test c = c .before .before .before .before
+
+abbrev from-minus : tie.After-minus → tie.Start
+from-minus c = from-test (c .before .before .before)
+
+abbrev from-stores : tie.After-store-all → tie.Start
+from-stores c = from-minus (c .before .before .before .before .before .before .before)
+
+-- what is known after each test, and what the stores are
+is-inside : (c : tie.Else1) → inCode (from-test c .args .state) (from-test c .args .target) ≡ true
 is-inside c = sym (c .before .in-code .ensures) ∙ not-false _ (c .if1 .left)
 
-new-sp : (c : tie.After-minus) → c .minus .result ≡ minus (c .before .before .before .before .before .before .before .args .state) (c .before .before .before .before .before .before .before .args .state .sp) (byteCount (pushed (c .before .before .before .before .before .before .before .args .state)))
+new-sp : (c : tie.After-minus) → c .minus .result ≡ newSp (from-minus c .args .state)
 new-sp c = rw (c .minus .ensures, c .before .bytes .ensures, c .before .before .pushed .ensures)
 
-past : (c : tie.After-runs-past) → runsPast (c .before .before .before .before .before .before .before .before .args .state) (minus (c .before .before .before .before .before .before .before .before .args .state) (c .before .before .before .before .before .before .before .before .args .state .sp) (byteCount (pushed (c .before .before .before .before .before .before .before .before .args .state)))) ≡ c .runs-past .result
+past : (c : tie.After-runs-past) → runsPast (from-minus (c .before) .args .state) (newSp (from-minus (c .before) .args .state)) ≡ c .runs-past .result
 past c = rw (← new-sp (c .before)) (sym (c .runs-past .ensures))
 
-stack-push : (c : tie.After-ordinary) → c .ordinary .result ≡ stackPush (lookupOf (c .before .before .before .before .before .before .before .before .before .before .before .args .pages .now) (c .before .before .before .before .before .before .before .before .before .before .before .args .bytes .now)) (c .before .before .before .before .before .before .before .before .before .before .before .args .bytes .now) (c .before .before .before .before .before .before .before .before .before .before .before .args .target) (c .before .before .before .before .before .before .before .before .before .before .before .args .framed) (c .before .before .before .before .before .before .before .before .before .before .before .args .span) (c .before .before .before .before .before .before .before .before .before .before .before .args .state)
-stack-push c = rw (c .ordinary .ensures, new-sp (c .before .before .before .before), c .before .before .before .before .before .before .pushed .ensures)
+fits : (c : tie.Else2) → runsPast (from-minus (c .before .before) .args .state) (newSp (from-minus (c .before .before) .args .state)) ≡ false
+fits c = past (c .before) ∙ c .if2 .left
 
-new-ssp : (c : tie.After-minus2) → c .minus2 .result ≡ minus (c .before .before .before .before .before .before .before .before .before .before .before .before .before .before .before .before .args .state) (c .before .before .before .before .before .before .before .before .before .before .before .before .before .before .before .before .args .state .ssp) (byteCount (pushed (c .before .before .before .before .before .before .before .before .before .before .before .before .before .before .before .before .args .state)))
-new-ssp c = rw (c .minus2 .ensures, c .before .bytes3 .ensures, c .before .before .before .before .before .before .before .before .before .before .before .pushed .ensures)
+-- where addresses lead, and the pushes as the definition has them
+abbrev led : tie.After-store-all → Lookup
+led c = lookupOf (from-stores c .args .pages .now) (from-stores c .args .bytes .now)
 
-shadow-push : (c : tie.After-shadow) → c .shadow .result ≡ shadowPush (lookupOf (c .before .before .before .before .before .before .before .before .before .before .before .before .before .before .before .before .before .args .pages .now) (c .before .before .before .before .before .before .before .before .before .before .before .before .before .before .before .before .before .args .bytes .now)) (c .before .before .before .before .before .before .before .before .before .before .before .before .before .before .before .before .before .args .bytes .now) (c .before .before .before .before .before .before .before .before .before .before .before .before .before .before .before .before .before .args .target) (c .before .before .before .before .before .before .before .before .before .before .before .before .before .before .before .before .before .args .framed) (c .before .before .before .before .before .before .before .before .before .before .before .before .before .before .before .before .before .args .span) (c .before .before .before .before .before .before .before .before .before .before .before .before .before .before .before .before .before .args .state)
-shadow-push c = rw (c .shadow .ensures, new-ssp (c .before), c .before .before .before .before .before .before .before .before .before .before .before .before .pushed .ensures)
+abbrev the-pushes : tie.After-store-all → List Slot
+the-pushes c = pushes (from-stores c .args .framed) (from-stores c .args .span) (from-stores c .args .state)
 
-tried : (c : tie.After-store) → probe (lookupOf (c .before .before .before .before .before .before .before .before .before .before .before .before .before .before .before .before .args .pages .now) (c .before .before .before .before .before .before .before .before .before .before .before .before .before .before .before .before .args .bytes .now)) (stackPush (lookupOf (c .before .before .before .before .before .before .before .before .before .before .before .before .before .before .before .before .args .pages .now) (c .before .before .before .before .before .before .before .before .before .before .before .before .before .before .before .before .args .bytes .now)) (c .before .before .before .before .before .before .before .before .before .before .before .before .before .before .before .before .args .bytes .now) (c .before .before .before .before .before .before .before .before .before .before .before .before .before .before .before .before .args .target) (c .before .before .before .before .before .before .before .before .before .before .before .before .before .before .before .before .args .framed) (c .before .before .before .before .before .before .before .before .before .before .before .before .before .before .before .before .args .span) (c .before .before .before .before .before .before .before .before .before .before .before .before .before .before .before .before .args .state)) ≡ c .store .result
-tried c = rw (← stack-push (c .before .before .before .before .before)) (sym (c .store .ensures .0))
-
-abbrev the-stores : tie.After-store-both → Result (Unit {0})
-the-stores c =
-    interp (lookupOf (c .before .before .before .before .before .before .before .before .before .before .before .before .before .before .before .before .before .before .before .args .pages .now) (c .before .before .before .before .before .before .before .before .before .before .before .before .before .before .before .before .before .before .before .args .bytes .now))
-    (storeBoth (stackPush (lookupOf (c .before .before .before .before .before .before .before .before .before .before .before .before .before .before .before .before .before .before .before .args .pages .now) (c .before .before .before .before .before .before .before .before .before .before .before .before .before .before .before .before .before .before .before .args .bytes .now)) (c .before .before .before .before .before .before .before .before .before .before .before .before .before .before .before .before .before .before .before .args .bytes .now) (c .before .before .before .before .before .before .before .before .before .before .before .before .before .before .before .before .before .before .before .args .target) (c .before .before .before .before .before .before .before .before .before .before .before .before .before .before .before .before .before .before .before .args .framed) (c .before .before .before .before .before .before .before .before .before .before .before .before .before .before .before .before .before .before .before .args .span) (c .before .before .before .before .before .before .before .before .before .before .before .before .before .before .before .before .before .before .before .args .state)) (next (c .before .before .before .before .before .before .before .before .before .before .before .before .before .before .before .before .before .before .before .args .state) (c .before .before .before .before .before .before .before .before .before .before .before .before .before .before .before .before .before .before .before .args .span)) (shadowPush (lookupOf (c .before .before .before .before .before .before .before .before .before .before .before .before .before .before .before .before .before .before .before .args .pages .now) (c .before .before .before .before .before .before .before .before .before .before .before .before .before .before .before .before .before .before .before .args .bytes .now)) (c .before .before .before .before .before .before .before .before .before .before .before .before .before .before .before .before .before .before .before .args .bytes .now) (c .before .before .before .before .before .before .before .before .before .before .before .before .before .before .before .before .before .before .before .args .target) (c .before .before .before .before .before .before .before .before .before .before .before .before .before .before .before .before .before .before .before .args .framed) (c .before .before .before .before .before .before .before .before .before .before .before .before .before .before .before .before .before .before .before .args .span) (c .before .before .before .before .before .before .before .before .before .before .before .before .before .before .before .before .before .before .before .args .state)) (next (c .before .before .before .before .before .before .before .before .before .before .before .before .before .before .before .before .before .before .before .args .state) (c .before .before .before .before .before .before .before .before .before .before .before .before .before .before .before .before .before .before .before .args .span)))
-    (c .before .before .before .before .before .before .before .before .before .before .before .before .before .before .before .before .before .before .before .args .bytes .now)
-
-stores : (c : tie.After-store-both) → (c .store-both .result ≡ storedOf (the-stores c)) × (c .store-both .last .1 .0 ≡ left (the-stores c) (c .before .before .before .before .before .before .before .before .before .before .before .before .before .before .before .before .before .before .before .args .bytes .now))
-stores c = rw (stack-push (c .before .before .before .before .before .before .before .before), shadow-push (c .before .before), c .before .before .before .before .before .before .before .before .before .next .ensures) at (c .store-both .ensures)
+stored : (c : tie.After-store-all) → (c .store-all .result ≡ tryAll (led c) (the-pushes c))
+    × (c .store-all .last .1 .1 .0 ≡ leftBy (c .store-all .result) (writtenAll (led c) (the-pushes c) (from-stores c .args .bytes .now)) (from-stores c .args .bytes .now))
+stored c =
+    rw (c .before .before .ordinary .ensures, c .before .before .before .make-frame .ensures, c .before .before .before .before .next .ensures, new-sp (c .before .before .before .before .before .before .before), c .before .before .before .before .before .before .before .before .before .pushed .ensures) at (c .store-all .ensures)
 
 returns : tie.Need-returns
 returns c =
@@ -85,20 +88,23 @@ returns-2 c =
 next-requires : tie.Need-next-requires
 next-requires c κs = search needs
 
+make-frame-requires : tie.Need-make-frame-requires
+make-frame-requires c κs = search needs
+
 ordinary-requires : tie.Need-ordinary-requires
 ordinary-requires c κs = search needs
 
-with-sp-requires : tie.Need-with-sp-requires
-with-sp-requires c κs = search needs
+array-set-from-slots : tie.Need-array-set-from-slots
+array-set-from-slots c = search needs
 
-pushes-frame-requires : tie.Need-pushes-frame-requires
-pushes-frame-requires c κs = search needs
+array-set-from-slots-2 : tie.Need-array-set-from-slots-2
+array-set-from-slots-2 c = search needs
 
-store-requires : tie.Need-store-requires
-store-requires c κs = search needs
+store-all-requires : tie.Need-store-all-requires
+store-all-requires c κs = search needs
 
-enum-known-failure : tie.Need-enum-known-failure
-enum-known-failure c = search needs
+enum-known-access : tie.Need-enum-known-access
+enum-known-access c = search needs
 
 blame-requires : tie.Need-blame-requires
 blame-requires c κs = search needs
@@ -109,79 +115,28 @@ fail-requires-3 c κs = search needs
 enum-told : tie.Need-enum-told
 enum-told c = search needs
 
-complete-requires : tie.Need-complete-requires
-complete-requires c κs = search needs
+transfer-requires : tie.Need-transfer-requires
+transfer-requires c κs = search needs
 
 same-length : tie.Need-same-length
 same-length c = search needs
 
 returns-3 : tie.Need-returns-3
 returns-3 c =
-    let failed = tried (c .before .before .before .before .before .before .before) ∙ c .before .before .before .failure .given .1 in
-    rw (c .fail3 .ensures, c .before .blame .ensures, c .before .before .before .before .before .before .before .store .ensures .1, stack-push (c .before .before .before .before .before .before .before .before .before .before .before .before), store-failed _ _ _ _ _ failed)
-    (sym (push-blocked _ _ _ _ _ _ (is-inside (c .before .before .before .before .before .before .before .before .before .before .before .before .before .before .before .before .before .before .before)) (past (c .before .before .before .before .before .before .before .before .before .before .before .before .before .before .before) ∙ c .before .before .before .before .before .before .before .before .before .before .before .before .before .before .if2 .left) (sym (c .before .before .before .before .before .before .before .before .before .before .pushes-frame .ensures) ∙ not-true _ (c .before .before .before .before .before .before .before .before .before .if3 .taken)) _ failed))
+    let done = stored (c .before .before .before .before .before .before .before) in
+    let failed = c .before .before .before .access .given .1 in
+    rw (c .fail3 .ensures, c .before .blame .ensures, done .1, failed)
+    (sym (not-pushed _ _ _ _ _ _ (is-inside (c .before .before .before .before .before .before .before .before .before .before .before .before .before .before .before .before .before)) (fits (c .before .before .before .before .before .before .before .before .before .before .before .before)) _ _ (sym (done .0) ∙ failed)))
 
 same-length-2 : tie.Need-same-length-2
 same-length-2 c = search needs
 
 returns-4 : tie.Need-returns-4
 returns-4 c =
-    let ready = tried (c .before .before .before .before .before) ∙ c .before .enum-told .given .1 in
-    rw (
-      c .complete .ensures,
-      c .before .before .before .before .before .before .before .before .before .with-sp .ensures,
-      c .before .before .before .before .before .store .ensures .1,
-      stack-push (c .before .before .before .before .before .before .before .before .before .before),
-      c .before .before .before .before .before .before .before .before .before .before .before .next .ensures,
-      store-done _ _ _ _ ready,
-      new-sp (c .before .before .before .before .before .before .before .before .before .before .before .before .before .before),
-    )
-    (sym (push-done _ _ _ _ _ _ (is-inside (c .before .before .before .before .before .before .before .before .before .before .before .before .before .before .before .before .before)) (past (c .before .before .before .before .before .before .before .before .before .before .before .before .before) ∙ c .before .before .before .before .before .before .before .before .before .before .before .before .if2 .left) (sym (c .before .before .before .before .before .before .before .before .pushes-frame .ensures) ∙ not-true _ (c .before .before .before .before .before .before .before .if3 .taken)) ready))
-
-bytes-requires-2 : tie.Need-bytes-requires-2
-bytes-requires-2 c κs = search needs
-
-minus-requires-2 : tie.Need-minus-requires-2
-minus-requires-2 c κs = search needs
-
-shadow-requires : tie.Need-shadow-requires
-shadow-requires c κs = search needs
-
-store-both-requires : tie.Need-store-both-requires
-store-both-requires c κs = search needs
-
-enum-known-fault : tie.Need-enum-known-fault
-enum-known-fault c = search needs
-
-fail-requires-4 : tie.Need-fail-requires-4
-fail-requires-4 c κs = search needs
-
-enum-told-2 : tie.Need-enum-told-2
-enum-told-2 c = search needs
-
-with-ssp-requires : tie.Need-with-ssp-requires
-with-ssp-requires c κs = search needs
-
-complete-requires-2 : tie.Need-complete-requires-2
-complete-requires-2 c κs = search needs
-
-same-length-3 : tie.Need-same-length-3
-same-length-3 c = search needs
-
-returns-5 : tie.Need-returns-5
-returns-5 c =
-    let both = stores (c .before .before .before .before .before .before) in
-    let e = none-stored (the-stores (c .before .before .before .before .before .before)) _ (sym (c .before .before .fault3 .given .1) ∙ both .0) in
-    rw (c .fail4 .ensures, both .1, e) (sym (frame-failed _ _ _ _ _ _ (is-inside (c .before .before .before .before .before .before .before .before .before .before .before .before .before .before .before .before .before .before .before .before .before)) (past (c .before .before .before .before .before .before .before .before .before .before .before .before .before .before .before .before .before) ∙ c .before .before .before .before .before .before .before .before .before .before .before .before .before .before .before .before .if2 .left) (sym (c .before .before .before .before .before .before .before .before .before .before .before .before .pushes-frame .ensures) ∙ not-false _ (c .before .before .before .before .before .before .before .before .before .before .before .if3 .left)) _ e))
-
-same-length-4 : tie.Need-same-length-4
-same-length-4 c = search needs
-
-returns-6 : tie.Need-returns-6
-returns-6 c =
-    let both = stores (c .before .before .before .before .before .before) in
-    rw (c .complete2 .ensures, c .before .with-ssp .ensures, c .before .before .before .before .before .before .before .before .before .before .before .before .before .with-sp .ensures, new-sp (c .before .before .before .before .before .before .before .before .before .before .before .before .before .before .before .before .before .before), new-ssp (c .before .before .before .before .before .before .before .before .before), both .1)
-    (sym (frame-done _ _ _ _ _ _ (is-inside (c .before .before .before .before .before .before .before .before .before .before .before .before .before .before .before .before .before .before .before .before .before)) (past (c .before .before .before .before .before .before .before .before .before .before .before .before .before .before .before .before .before) ∙ c .before .before .before .before .before .before .before .before .before .before .before .before .before .before .before .before .if2 .left) (sym (c .before .before .before .before .before .before .before .before .before .before .before .before .pushes-frame .ensures) ∙ not-false _ (c .before .before .before .before .before .before .before .before .before .before .before .if3 .left)) _ (all-stored (the-stores (c .before .before .before .before .before .before)) _ (sym (c .before .before .enum-told2 .given .1) ∙ both .0))))
+    let done = stored (c .before .before .before .before .before) in
+    let all = c .before .enum-told .given .1 in
+    rw (c .transfer .ensures, new-sp (c .before .before .before .before .before .before .before .before .before .before .before .before), c .before .before .before .before .before .before .before .before .make-frame .ensures, c .before .before .before .before .before .before .before .before .before .next .ensures, done .1, all)
+    (sym (pushed-all _ _ _ _ _ _ (is-inside (c .before .before .before .before .before .before .before .before .before .before .before .before .before .before .before)) (fits (c .before .before .before .before .before .before .before .before .before .before)) (sym (done .0) ∙ all)))
 
 pub execute-spec : {M : Type 1} → statement M
 execute-spec =
@@ -199,29 +154,17 @@ execute-spec =
     fail-requires-2
     returns-2
     next-requires
+    make-frame-requires
     ordinary-requires
-    with-sp-requires
-    pushes-frame-requires
-    store-requires
-    enum-known-failure
+    array-set-from-slots
+    array-set-from-slots-2
+    store-all-requires
+    enum-known-access
     blame-requires
     fail-requires-3
     enum-told
-    complete-requires
+    transfer-requires
     same-length
     returns-3
     same-length-2
-    returns-4
-    bytes-requires-2
-    minus-requires-2
-    shadow-requires
-    store-both-requires
-    enum-known-fault
-    fail-requires-4
-    enum-told-2
-    with-ssp-requires
-    complete-requires-2
-    same-length-3
-    returns-5
-    same-length-4
-    returns-6)
+    returns-4)

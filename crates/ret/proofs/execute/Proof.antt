@@ -3,24 +3,56 @@ use mathlib.Core.Path.{_≡_, sym, _∙_, ap}
 use mathlib.Core.Bool.{false}
 use borrow.Author.Tests.{not-true, not-false}
 use borrow.Author.Needs.{needs}
+use Rattle.pages.specs.Pages.{Lookup}
 use Rattle.memory.specs.Access.{lookupOf, load as loadAt}
+use Rattle.memory.specs.declared.access.Access.{Access}
+use Rattle.memory.specs.declared.load.Loaded.the-variants.{Value}
 use Rattle.processor.specs.Accesses.{ordinary}
+use Rattle.processor.specs.Prog.{ended, interp}
+use Rattle.processor.specs.Popped.{resultOf}
+use Rattle.processor.specs.declared.popped.Popped.{Popped}
 use Rattle.call.specs.Call.{pushed, runsPast}
-use Rattle.ret.specs.Popped.{resultOf}
-use Rattle.ret.specs.declared.Popped.{Popped}
+use Rattle.ret.specs.Ret.{newSsp}
 use Rattle.ret.proofs.RetWays.{stack-end, pop-blocked, frame-failed, outside, returned}
 use Rattle.ret.proofs.execute.Statement.{statement}
 use Rattle.ret.proofs.execute.Tie as tie
 
--- what is known after the test, and after the load
-is-inside : (c : tie.Else1) → runsPast (c .before .before .before .before .args .state) (c .before .before .before .before .args .state .sp) ≡ false
+-- the entry of the function, from the places that the facts below stand at; where addresses lead, and the pop off the ordinary stack
+abbrev from-test : tie.Else1 → tie.Start
+from-test c = c .before .before .before .before
+
+abbrev from-load : tie.After-load → tie.Start
+from-load c = from-test (c .before .before .before)
+
+abbrev from-frame : tie.After-new-ssp → tie.Start
+from-frame c = from-load (c .before .before .before .before)
+
+abbrev led : tie.Start → Lookup
+led c = lookupOf (c .args .pages .now) (c .args .bytes .now)
+
+abbrev pop : tie.Start → Access
+pop c = ordinary (c .args .state) (c .args .state .sp) (pushed (c .args .state)) false
+
+-- what is known after the test, and after each pop
+is-inside : (c : tie.Else1) → runsPast (from-test c .args .state) (from-test c .args .state .sp) ≡ false
 is-inside c = sym (c .before .runs-past .ensures) ∙ c .if1 .left
 
-stack-load : (c : tie.After-ordinary) → c .ordinary .result ≡ ordinary (c .before .before .before .before .before .before .args .state) (c .before .before .before .before .before .before .args .state .sp) (pushed (c .before .before .before .before .before .before .args .state)) false
-stack-load c = rw (c .ordinary .ensures, c .before .pushed .ensures)
+stack-load : (c : tie.After-load) → c .before .ordinary .result ≡ pop (from-load c)
+stack-load c = rw (c .before .ordinary .ensures, c .before .before .pushed .ensures)
 
-found : (c : tie.After-load) → loadAt (lookupOf (c .before .before .before .before .before .before .before .args .pages .now) (c .before .before .before .before .before .before .before .args .bytes .now)) (c .before .before .before .before .before .before .before .args .bytes .now) (ordinary (c .before .before .before .before .before .before .before .args .state) (c .before .before .before .before .before .before .before .args .state .sp) (pushed (c .before .before .before .before .before .before .before .args .state)) false) ≡ c .load .result
-found c = rw (← stack-load (c .before)) (sym (c .load .ensures))
+loaded : (c : tie.After-load) → loadAt (led (from-load c)) (from-load c .args .bytes .now) (pop (from-load c)) ≡ c .load .result
+loaded c = rw (← stack-load c) (sym (c .load .ensures))
+
+popped : (c : tie.After-target) → loadAt (led (from-load (c .before .before))) (from-load (c .before .before) .args .bytes .now) (pop (from-load (c .before .before))) ≡ Value (c .target .given .0 .0)
+popped c = loaded (c .before .before) ∙ c .target .given .1
+
+framed : (c : tie.After-new-ssp)
+    → interp (led (from-frame c)) (newSsp (from-frame c .args .state) (c .before .before .target .given .0 .0)) (from-frame c .args .bytes .now) ≡ resultOf (c .new-ssp .result) (from-frame c .args .bytes .now)
+framed c = sym (c .new-ssp .ensures)
+
+topped : (c : tie.After-ssp)
+    → interp (led (from-frame (c .before .before))) (newSsp (from-frame (c .before .before) .args .state) (c .before .before .before .before .target .given .0 .0)) (from-frame (c .before .before) .args .bytes .now) ≡ ended (c .ssp .given .0 .0) (from-frame (c .before .before) .args .bytes .now)
+topped c = framed (c .before .before) ∙ ap (λ (p : Popped). resultOf p (from-frame (c .before .before) .args .bytes .now)) (c .ssp .given .1)
 
 runs-past-requires : tie.Need-runs-past-requires
 runs-past-requires c κs = search needs
@@ -69,21 +101,6 @@ fail-requires-3 c κs = search needs
 enum-known-ssp : tie.Need-enum-known-ssp
 enum-known-ssp c = search needs
 
-bytes-requires : tie.Need-bytes-requires
-bytes-requires c κs = search needs
-
-plus-requires : tie.Need-plus-requires
-plus-requires c κs = search needs
-
-plus-requires-2 : tie.Need-plus-requires-2
-plus-requires-2 c κs = search needs
-
-with-sp-requires : tie.Need-with-sp-requires
-with-sp-requires c κs = search needs
-
-with-ssp-requires : tie.Need-with-ssp-requires
-with-ssp-requires c κs = search needs
-
 in-code-requires : tie.Need-in-code-requires
 in-code-requires c κs = search needs
 
@@ -96,25 +113,34 @@ fail-requires-4 c κs = search needs
 returns-2 : tie.Need-returns-2
 returns-2 c =
     rw (c .fail4 .ensures, c .before .fault3 .ensures)
-    (sym (outside _ _ _ _ (is-inside (c .before .before .before .before .before .before .before .before .before .before .before .before .before .before .before .before .before .before .before)) _ (found (c .before .before .before .before .before .before .before .before .before .before .before .before .before .before .before .before) ∙ c .before .before .before .before .before .before .before .before .before .before .before .before .before .before .target .given .1) _ (sym (c .before .before .before .before .before .before .before .before .before .before .before .before .new-ssp .ensures) ∙ ap (λ (p : Popped). resultOf p (c .before .before .before .before .before .before .before .before .before .before .before .before .before .before .before .before .before .before .before .before .before .before .before .args .bytes .now)) (c .before .before .before .before .before .before .before .before .before .before .ssp .given .1)) (sym (c .before .before .before .in-code .ensures) ∙ not-true _ (c .before .before .if2 .taken))))
+    (sym (outside _ _ _ _ (is-inside (c .before .before .before .before .before .before .before .before .before .before .before .before .before .before)) _ (popped (c .before .before .before .before .before .before .before .before .before)) _ (topped (c .before .before .before .before .before)) (sym (c .before .before .before .in-code .ensures) ∙ not-true _ (c .before .before .if2 .taken))))
 
-complete-requires : tie.Need-complete-requires
-complete-requires c κs = search needs
+bytes-requires : tie.Need-bytes-requires
+bytes-requires c κs = search needs
+
+plus-requires : tie.Need-plus-requires
+plus-requires c κs = search needs
+
+plus-requires-2 : tie.Need-plus-requires-2
+plus-requires-2 c κs = search needs
+
+transfer-requires : tie.Need-transfer-requires
+transfer-requires c κs = search needs
 
 returns-3 : tie.Need-returns-3
 returns-3 c =
-    rw (c .fail2 .ensures, c .before .blame .ensures, stack-load (c .before .before .before .before .before .before))
-    (sym (pop-blocked _ _ _ _ (is-inside (c .before .before .before .before .before .before .before .before)) _ (found (c .before .before .before .before .before) ∙ c .before .before .before .failure .given .1)))
+    rw (c .fail2 .ensures, c .before .blame .ensures, stack-load (c .before .before .before .before .before))
+    (sym (pop-blocked _ _ _ _ (is-inside (c .before .before .before .before .before .before .before .before)) _ (loaded (c .before .before .before .before .before) ∙ c .before .before .before .failure .given .1)))
 
 returns-4 : tie.Need-returns-4
 returns-4 c =
     rw (c .fail3 .ensures)
-    (sym (frame-failed _ _ _ _ (is-inside (c .before .before .before .before .before .before .before .before .before .before .before)) _ (found (c .before .before .before .before .before .before .before .before) ∙ c .before .before .before .before .before .before .target .given .1) _ (sym (c .before .before .before .before .new-ssp .ensures) ∙ ap (λ (p : Popped). resultOf p (c .before .before .before .before .before .before .before .before .before .before .before .before .before .before .before .args .bytes .now)) (c .before .before .fault2 .given .1))))
+    (sym (frame-failed _ _ _ _ (is-inside (c .before .before .before .before .before .before .before .before .before .before .before)) _ (popped (c .before .before .before .before .before .before)) _ (framed (c .before .before .before .before) ∙ ap (λ (p : Popped). resultOf p (from-frame (c .before .before .before .before) .args .bytes .now)) (c .before .before .fault2 .given .1))))
 
 returns-5 : tie.Need-returns-5
 returns-5 c =
-    rw (c .complete .ensures, c .before .before .before .with-ssp .ensures, c .before .before .before .before .with-sp .ensures, c .before .before .before .before .before .plus2 .ensures, c .before .before .before .before .before .before .plus .ensures, c .before .before .before .before .before .before .before .bytes .ensures, c .before .before .before .before .before .before .before .before .before .before .before .before .before .before .before .before .before .pushed .ensures)
-    (sym (returned _ _ _ _ (is-inside (c .before .before .before .before .before .before .before .before .before .before .before .before .before .before .before .before .before .before)) _ (found (c .before .before .before .before .before .before .before .before .before .before .before .before .before .before .before) ∙ c .before .before .before .before .before .before .before .before .before .before .before .before .before .target .given .1) _ (sym (c .before .before .before .before .before .before .before .before .before .before .before .new-ssp .ensures) ∙ ap (λ (p : Popped). resultOf p (c .before .before .before .before .before .before .before .before .before .before .before .before .before .before .before .before .before .before .before .before .before .before .args .bytes .now)) (c .before .before .before .before .before .before .before .before .before .ssp .given .1)) (sym (c .before .before .in-code .ensures) ∙ not-false _ (c .before .if2 .left))))
+    rw (c .transfer .ensures, c .before .plus2 .ensures, c .before .before .plus .ensures, c .before .before .before .bytes .ensures, c .before .before .before .before .before .before .before .before .before .before .before .before .before .before .before .pushed .ensures)
+    (sym (returned _ _ _ _ (is-inside (c .before .before .before .before .before .before .before .before .before .before .before .before .before .before .before .before)) _ (popped (c .before .before .before .before .before .before .before .before .before .before .before)) _ (topped (c .before .before .before .before .before .before .before)) (sym (c .before .before .before .before .before .in-code .ensures) ∙ not-false _ (c .before .before .before .before .if2 .left))))
 
 pub execute-spec : {M : Type 1} → statement M
 execute-spec =
@@ -135,16 +161,14 @@ execute-spec =
     enum-known-fault
     fail-requires-3
     enum-known-ssp
-    bytes-requires
-    plus-requires
-    plus-requires-2
-    with-sp-requires
-    with-ssp-requires
     in-code-requires
     fault-requires-2
     fail-requires-4
     returns-2
-    complete-requires
+    bytes-requires
+    plus-requires
+    plus-requires-2
+    transfer-requires
     returns-3
     returns-4
     returns-5)

@@ -1,25 +1,57 @@
 -- `leave_token` meets its contract: each return cites the way through the definition that leads to it. Assumes nothing.
-use Prim.Native.Nat.{ℕ, _+_}
 use mathlib.Core.Path.{_≡_, sym, _∙_, ap}
 use mathlib.Core.Bool.{true}
+use mathlib.Core.List.{List}
 use native.Mathlib.Omega.{arith}
 use borrow.Author.Tests.{not-true, not-false}
 use borrow.Author.Needs.{needs}
+use Rattle.pages.specs.Pages.{Lookup}
 use Rattle.memory.specs.Access.{lookupOf}
-use Rattle.memory.specs.declared.access.Size.the-variants.{Four, Eight}
-use Rattle.processor.specs.State.{longBit, plus, minus}
-use Rattle.processor.specs.Accesses.{shadow}
-use Rattle.stores.specs.Stored.{storedOf}
-use Rattle.processor.specs.Prog.{Result, interp, storeBoth, left}
+use Rattle.stores.specs.Stores.{tryAll, writtenAll, leftBy}
+use Rattle.stores.specs.declared.Slot.{Slot}
+use Rattle.processor.specs.State.{plus}
+use Rattle.processor.specs.Prog.{ended, interp}
+use Rattle.processor.specs.Popped.{resultOf}
+use Rattle.processor.specs.declared.popped.Popped.{Popped}
 use Rattle.processor.proofs.Laws.{long-small}
-use Rattle.stores.proofs.Laws.{none-stored, all-stored}
-use Rattle.saveprevssp.specs.declared.Popped.{Popped}
-use Rattle.bits.specs.Bits.{multiple}
-use Rattle.saveprevssp.specs.Popped.{resultOf}
-use Rattle.saveprevssp.specs.Saveprevssp.{newTop}
-use Rattle.saveprevssp.proofs.SaveprevsspWays.{top-failed, not-saved, not-left, left-behind}
+use Rattle.saveprevssp.specs.Saveprevssp.{newTop, savedToken}
+use Rattle.saveprevssp.proofs.SaveprevsspWays.{leftStores, top-failed, not-saved, not-left, left-behind}
 use Rattle.saveprevssp.proofs.leave_token.Statement.{statement}
 use Rattle.saveprevssp.proofs.leave_token.Tie as tie
+
+-- the entry of the function, from the places that the facts below stand at, and where addresses lead
+abbrev from-top : tie.After-new-top → tie.Start
+from-top c = c .before .before .before .before .before
+
+abbrev from-test : tie.Else1 → tie.Start
+from-test c = from-top (c .before .before .before .before .before)
+
+abbrev from-stores : tie.After-store-all → tie.Start
+from-stores c = from-test (c .before .before .before .before .before .before .before)
+
+abbrev led : tie.Start → Lookup
+led c = lookupOf (c .args .pages .now) (c .args .bytes .now)
+
+-- the new top, as the definition has it
+topped : (c : tie.After-new-top)
+    → interp (led (from-top c)) (newTop (from-top c .args .state) (plus (from-top c .args .state) (from-top c .args .state .ssp) 8)) (from-top c .args .bytes .now) ≡ resultOf (c .new-top .result) (from-top c .args .bytes .now)
+topped c = rw (← c .before .plus .ensures) (sym (c .new-top .ensures))
+
+found : (c : tie.After-top)
+    → interp (led (from-top (c .before .before))) (newTop (from-top (c .before .before) .args .state) (plus (from-top (c .before .before) .args .state) (from-top (c .before .before) .args .state .ssp) 8)) (from-top (c .before .before) .args .bytes .now) ≡ ended (c .top .given .0 .0) (from-top (c .before .before) .args .bytes .now)
+found c = topped (c .before .before) ∙ ap (λ (p : Popped). resultOf p (from-top (c .before .before) .args .bytes .now)) (c .top .given .1)
+
+is-saved : (c : tie.Else1) → savedToken (from-test c .args .state) (from-test c .args .token) ≡ true
+is-saved c = sym (c .before .saved-token .ensures) ∙ not-false _ (c .if1 .left)
+
+-- the stores, as the definition has them
+abbrev the-stores : tie.After-store-all → List Slot
+the-stores c = leftStores (from-stores c .args .token) (from-stores c .args .state)
+
+stored : (c : tie.After-store-all) → (c .store-all .result ≡ tryAll (led (from-stores c)) (the-stores c))
+    × (c .store-all .last .1 .1 .0 ≡ leftBy (c .store-all .result) (writtenAll (led (from-stores c)) (the-stores c) (from-stores c .args .bytes .now)) (from-stores c .args .bytes .now))
+stored c =
+    rw (c .before .before .before .shadow2 .ensures, c .before .before .before .before .minus2 .ensures, c .before .before .before .before .before .shadow .ensures, c .before .before .before .before .before .before .minus .ensures, c .before .before .long-bit .ensures) at (c .store-all .ensures)
 
 plus-requires : tie.Need-plus-requires
 plus-requires c κs = search needs
@@ -48,24 +80,10 @@ fail-requires-2 c κs = search needs
 same-length : tie.Need-same-length
 same-length c = search needs
 
--- the new top, and the two stores, as the definition has them
-topped : (c : tie.After-new-top) → interp (lookupOf (c .before .before .before .before .before .args .pages .now) (c .before .before .before .before .before .args .bytes .now)) (newTop (c .before .before .before .before .before .args .state) (plus (c .before .before .before .before .before .args .state) (c .before .before .before .before .before .args .state .ssp) 8)) (c .before .before .before .before .before .args .bytes .now) ≡ resultOf (c .new-top .result) (c .before .before .before .before .before .args .bytes .now)
-topped c = rw (← c .before .plus .ensures) (sym (c .new-top .ensures))
-
-abbrev the-stores : tie.After-store-both → Result (Unit {0})
-the-stores c =
-    let s = c .before .before .before .before .before .before .before .before .before .before .before .before .before .before .before .before .before .args .state in
-    let old : ℕ = multiple 4 (c .before .before .before .before .before .before .before .before .before .before .before .before .before .before .before .before .before .args .token) in
-    interp (lookupOf (c .before .before .before .before .before .before .before .before .before .before .before .before .before .before .before .before .before .args .pages .now) (c .before .before .before .before .before .before .before .before .before .before .before .before .before .before .before .before .before .args .bytes .now)) (storeBoth (shadow s (minus s old 4) Four true) 0 (shadow s (minus s (multiple 8 old) 8) Eight true) (old + longBit s)) (c .before .before .before .before .before .before .before .before .before .before .before .before .before .before .before .before .before .args .bytes .now)
-
-stores : (c : tie.After-store-both) → (c .store-both .result ≡ storedOf (the-stores c)) × (c .store-both .last .1 .0 ≡ left (the-stores c) (c .before .before .before .before .before .before .before .before .before .before .before .before .before .before .before .before .before .args .bytes .now))
-stores c =
-    rw (c .before .before .before .shadow2 .ensures, c .before .before .before .before .minus2 .ensures, c .before .before .before .before .before .shadow .ensures, c .before .before .before .before .before .before .minus .ensures, c .before .long-bit .ensures) at (c .store-both .ensures)
-
 returns : tie.Need-returns
 returns c =
     rw (c .fail2 .ensures, c .before .fault2 .ensures)
-    (sym (not-saved _ _ _ _ _ _ (topped (c .before .before .before .before .before .before .before) ∙ ap (λ (p : Popped). resultOf p (c .before .before .before .before .before .before .before .before .before .before .before .before .args .bytes .now)) (c .before .before .before .before .before .top .given .1)) (sym (c .before .before .before .saved-token .ensures) ∙ not-true _ (c .before .before .if1 .taken))))
+    (sym (not-saved _ _ _ _ _ _ (found (c .before .before .before .before .before)) (sym (c .before .before .before .saved-token .ensures) ∙ not-true _ (c .before .before .if1 .taken))))
 
 sub-old : tie.Need-sub-old
 sub-old c = search needs
@@ -88,14 +106,25 @@ shadow-requires-2 c κs = search needs
 long-bit-requires : tie.Need-long-bit-requires
 long-bit-requires c κs = search needs
 
-add-store-both : tie.Need-add-store-both
-add-store-both c = omega (arith, c .long-bit .ensures, long-small (c .before .before .before .before .before .before .before .before .before .before .before .before .before .before .before .before .args .state), c .before .before .before .before .before .before .before .before .before .before .before .before .before .before .before .before .fits .token)
+add-restore : tie.Need-add-restore
+add-restore c =
+    let start = from-test (c .before .before .before .before .before) in
+    omega (arith, c .long-bit .ensures, long-small (start .args .state), start .fits .token)
 
-store-both-requires : tie.Need-store-both-requires
-store-both-requires c κs = search needs
+array-set-from-slots : tie.Need-array-set-from-slots
+array-set-from-slots c = search needs
 
-enum-known-fault-2 : tie.Need-enum-known-fault-2
-enum-known-fault-2 c = search needs
+array-set-from-slots-2 : tie.Need-array-set-from-slots-2
+array-set-from-slots-2 c = search needs
+
+store-all-requires : tie.Need-store-all-requires
+store-all-requires c κs = search needs
+
+enum-known-access : tie.Need-enum-known-access
+enum-known-access c = search needs
+
+blame-requires : tie.Need-blame-requires
+blame-requires c κs = search needs
 
 fail-requires-3 : tie.Need-fail-requires-3
 fail-requires-3 c κs = search needs
@@ -103,40 +132,39 @@ fail-requires-3 c κs = search needs
 enum-told : tie.Need-enum-told
 enum-told c = search needs
 
-with-ssp-requires : tie.Need-with-ssp-requires
-with-ssp-requires c κs = search needs
-
 next-requires : tie.Need-next-requires
 next-requires c κs = search needs
 
-complete-requires : tie.Need-complete-requires
-complete-requires c κs = search needs
+shift-requires : tie.Need-shift-requires
+shift-requires c κs = search needs
 
 same-length-2 : tie.Need-same-length-2
 same-length-2 c = search needs
 
 returns-2 : tie.Need-returns-2
 returns-2 c =
-    rw (c .fail .ensures) (sym (top-failed _ _ _ _ _ _ (topped (c .before .before .before .before) ∙ ap (λ (p : Popped). resultOf p (c .before .before .before .before .before .before .before .before .before .args .bytes .now)) (c .before .before .fault .given .1))))
+    rw (c .fail .ensures)
+    (sym (top-failed _ _ _ _ _ _ (topped (c .before .before .before .before) ∙ ap (λ (p : Popped). resultOf p (from-top (c .before .before .before .before) .args .bytes .now)) (c .before .before .fault .given .1))))
 
 same-length-3 : tie.Need-same-length-3
 same-length-3 c = search needs
 
 returns-3 : tie.Need-returns-3
 returns-3 c =
-    let both = stores (c .before .before .before .before .before .before) in
-    let e = none-stored (the-stores (c .before .before .before .before .before .before)) _ (sym (c .before .before .fault3 .given .1) ∙ both .0) in
-    rw (c .fail3 .ensures, both .1, e)
-    (sym (not-left _ _ _ _ _ _ (topped (c .before .before .before .before .before .before .before .before .before .before .before .before .before .before .before .before .before .before) ∙ ap (λ (p : Popped). resultOf p (c .before .before .before .before .before .before .before .before .before .before .before .before .before .before .before .before .before .before .before .before .before .before .before .args .bytes .now)) (c .before .before .before .before .before .before .before .before .before .before .before .before .before .before .before .before .top .given .1)) (sym (c .before .before .before .before .before .before .before .before .before .before .before .before .before .before .saved-token .ensures) ∙ not-false _ (c .before .before .before .before .before .before .before .before .before .before .before .before .before .if1 .left)) _ e))
+    let done = stored (c .before .before .before .before .before .before .before) in
+    let failed = c .before .before .before .access .given .1 in
+    rw (c .fail3 .ensures, c .before .blame .ensures, done .1, failed)
+    (sym (not-left _ _ _ _ _ _ (found (c .before .before .before .before .before .before .before .before .before .before .before .before .before .before .before .before .before)) (is-saved (c .before .before .before .before .before .before .before .before .before .before .before .before .before .before)) _ _ (sym (done .0) ∙ failed)))
 
 same-length-4 : tie.Need-same-length-4
 same-length-4 c = search needs
 
 returns-4 : tie.Need-returns-4
 returns-4 c =
-    let both = stores (c .before .before .before .before .before .before .before) in
-    rw (c .complete .ensures, c .before .next .ensures, c .before .before .with-ssp .ensures, both .1)
-    (sym (left-behind _ _ _ _ _ _ (topped (c .before .before .before .before .before .before .before .before .before .before .before .before .before .before .before .before .before .before .before) ∙ ap (λ (p : Popped). resultOf p (c .before .before .before .before .before .before .before .before .before .before .before .before .before .before .before .before .before .before .before .before .before .before .before .before .args .bytes .now)) (c .before .before .before .before .before .before .before .before .before .before .before .before .before .before .before .before .before .top .given .1)) (sym (c .before .before .before .before .before .before .before .before .before .before .before .before .before .before .before .saved-token .ensures) ∙ not-false _ (c .before .before .before .before .before .before .before .before .before .before .before .before .before .before .if1 .left)) _ (all-stored _ _ (sym (c .before .before .before .enum-told .given .1) ∙ both .0))))
+    let done = stored (c .before .before .before .before .before .before) in
+    let all = c .before .before .enum-told .given .1 in
+    rw (c .shift .ensures, c .before .next .ensures, done .1, all)
+    (sym (left-behind _ _ _ _ _ _ (found (c .before .before .before .before .before .before .before .before .before .before .before .before .before .before .before .before)) (is-saved (c .before .before .before .before .before .before .before .before .before .before .before .before .before)) (sym (done .0) ∙ all)))
 
 pub leave-token-spec : {M : Type 1} → statement M
 leave-token-spec =
@@ -159,14 +187,16 @@ leave-token-spec =
     minus-requires-2
     shadow-requires-2
     long-bit-requires
-    add-store-both
-    store-both-requires
-    enum-known-fault-2
+    add-restore
+    array-set-from-slots
+    array-set-from-slots-2
+    store-all-requires
+    enum-known-access
+    blame-requires
     fail-requires-3
     enum-told
-    with-ssp-requires
     next-requires
-    complete-requires
+    shift-requires
     same-length-2
     returns-2
     same-length-3

@@ -14,6 +14,7 @@ enum-known-place : tie.Need-enum-known-place
 enum-known-place c = search needs
 
 load-within-requires : tie.Need-load-within-requires
+unfolding lookupOf
 load-within-requires c κs = on-lent-page _ _ _ _ (told _ _ _ (sym (c .before .place .given .1) ∙ c .before .before .before .locate .ensures))
 
 enum-told : tie.Need-enum-told

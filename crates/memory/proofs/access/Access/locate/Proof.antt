@@ -1,8 +1,10 @@
 -- `Access::locate` meets its contract: on one page the first byte decides, else every byte is tried. Assumes nothing.
 use mathlib.Core.Path.{_≡_, sym, _∙_}
 use borrow.Author.Needs.{needs}
-use Rattle.memory.specs.Access.{byteCount, start}
+use lib.ListN.{length}
+use Rattle.memory.specs.Access.{lookupOf, byteCount, start}
 use Rattle.memory.specs.OnePage.{onePage}
+use Rattle.memory.specs.declared.access.Access.{Access}
 use Rattle.memory.proofs.OnePage.{first-byte-decides, first-located, each-located}
 use Rattle.memory.proofs.access.Access.locate.Statement.{statement}
 use Rattle.memory.proofs.access.Access.locate.Tie as tie
@@ -16,18 +18,22 @@ bytes-requires c κs = search needs
 one-page-requires : tie.Need-one-page-requires
 one-page-requires c κs = search needs
 
--- what the test found, in the terms of the definition
-tested : (c : tie.After-one-page) → onePage (start (c .before .before .before .before .args .self)) (byteCount (c .before .before .before .before .args .self .size)) ≡ c .one-page .result
+-- the access, and what the test found of it, in the terms of the definition
+abbrev its : tie.After-one-page → Access
+its c = c .before .before .before .before .before .args .self
+
+tested : (c : tie.After-one-page) → onePage (start (its c)) (byteCount (its c .size)) ≡ c .one-page .result
 tested c = rw (← c .before .before .wrap .ensures, ← c .before .bytes .ensures) (sym (c .one-page .ensures))
 
 locate-first-requires : tie.Need-locate-first-requires
 locate-first-requires c κs = search needs
 
 returns : tie.Need-returns
+unfolding lookupOf
 returns c =
-    let args = c .before .before .before .before .before .before .args in
+    let args = c .before .before .before .before .before .before .before .args in
     let one = tested (c .before .before) ∙ c .before .if1 .taken in
-    c .locate-first .ensures ∙ first-located _ (args .self) one (λ i h. first-byte-decides (args .pages .now) (args .lent) (args .self) one i h .1)
+    c .locate-first .ensures ∙ first-located _ (args .self) one (λ i h. first-byte-decides (args .pages .now) (length (args .bytes .now)) (args .self) one i h .1)
 
 try-each-requires : tie.Need-try-each-requires
 try-each-requires c κs = search needs
@@ -39,9 +45,11 @@ enum-known-failure : tie.Need-enum-known-failure
 enum-known-failure c = search needs
 
 returns-2 : tie.Need-returns-2
+unfolding lookupOf
 returns-2 c = each-located _ _ (tested (c .before .before .before .before) ∙ c .before .before .before .if1 .left) _ (sym (c .before .before .try-each .ensures) ∙ c .enum-told .given .1)
 
 returns-3 : tie.Need-returns-3
+unfolding lookupOf
 returns-3 c = each-located _ _ (tested (c .before .before .before .before .before) ∙ c .before .before .before .before .if1 .left) _ (sym (c .before .before .before .try-each .ensures) ∙ c .before .failure .given .1)
 
 pub locate-spec : {M : Type 1} → statement M

@@ -14,6 +14,7 @@ enum-known-place : tie.Need-enum-known-place
 enum-known-place c = search needs
 
 store-within-requires : tie.Need-store-within-requires
+unfolding lookupOf
 store-within-requires c κs = on-lent-page _ _ _ _ (told _ _ _ (sym (c .before .before .place .given .1) ∙ c .before .before .before .before .locate .ensures))
 
 enum-told : tie.Need-enum-told
@@ -46,6 +47,9 @@ returns-2 c =
     let ready = told _ _ _ (sym (c .before .before .before .before .before .enum-told .given .1) ∙ c .before .before .before .before .before .before .before .locate .ensures) in
     (sym ready, rw (store-done _ _ _ _ ready, ← c .before .before .before .bytes2 .ensures) (c .before .before .write .ensures))
 
+same-length-3 : tie.Need-same-length-3
+same-length-3 c = search needs
+
 returns-3 : tie.Need-returns-3
 unfolding lookupOf
 returns-3 c =
@@ -67,4 +71,5 @@ store-spec =
     returns
     same-length-2
     returns-2
+    same-length-3
     returns-3)

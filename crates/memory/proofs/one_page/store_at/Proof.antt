@@ -1,0 +1,47 @@
+-- `store_at` meets its contract, by the two tests. Assumes nothing.
+use mathlib.Core.Path.{_≡_, sym, _∙_}
+use borrow.Author.Needs.{needs}
+use Rattle.memory.specs.Access.{byteCount}
+use Rattle.memory.specs.OnePage.{onePage}
+use Rattle.memory.proofs.OnePage.{page-not-lent, runs-off-page, lies-on-page, stored-on-page}
+use Rattle.memory.proofs.one_page.store_at.Statement.{statement}
+use Rattle.memory.proofs.one_page.store_at.Tie as tie
+
+returns : tie.Need-returns
+returns c = sym (page-not-lent _ _ _ _ (c .if1 .taken))
+
+bytes-requires : tie.Need-bytes-requires
+bytes-requires c κs = search needs
+
+one-page-requires : tie.Need-one-page-requires
+one-page-requires c κs = search needs
+
+-- what the second test found, in the terms of the definition
+tested : (c : tie.After-one-page) → onePage (c .before .before .before .before .args .place) (byteCount (c .before .before .before .before .args .size)) ≡ c .one-page .result
+tested c = rw (← c .before .bytes .ensures) (sym (c .one-page .ensures))
+
+store-within-requires : tie.Need-store-within-requires
+store-within-requires c κs = lies-on-page _ _ _ (c .before .before .before .before .if1 .left) (tested (c .before .before) ∙ c .before .if2 .taken)
+
+same-length : tie.Need-same-length
+same-length c = search needs
+
+returns-2 : tie.Need-returns-2
+returns-2 c =
+    c .before .before .store-within .ensures
+    ∙ sym (stored-on-page _ _ _ _ (c .before .before .before .before .before .before .before .if1 .left) (tested (c .before .before .before .before .before) ∙ c .before .before .before .before .if2 .taken))
+
+returns-3 : tie.Need-returns-3
+returns-3 c = sym (runs-off-page _ _ _ _ (c .before .before .before .if1 .left) (tested (c .before) ∙ c .if2 .left))
+
+pub store-at-spec : {M : Type 1} → statement M
+store-at-spec =
+    tie.close
+    (tie.spec
+    returns
+    bytes-requires
+    one-page-requires
+    store-within-requires
+    same-length
+    returns-2
+    returns-3)

@@ -1,0 +1,34 @@
+-- The stores of one operation, as a list (docs/RULES.md, "Reaching a byte"): the first that cannot be done decides, and then none is made. Assumes nothing.
+use Prim.Native.Nat.{ℕ}
+use mathlib.Core.List.{List, [], _∷_}
+use Rattle.pages.specs.Pages.{Lookup}
+use Rattle.memory.specs.Access.{probe, written}
+use Rattle.memory.specs.declared.access.Access.{Access}
+use Rattle.memory.specs.declared.access.Reach.{Reach}
+use Rattle.memory.specs.declared.access.Reach.the-variants.{Ready, Blocked}
+use Rattle.stores.specs.declared.Slot.{Slot}
+use Rattle.stores.specs.declared.Slot.the-variants.{Empty, Store}
+use Rattle.stores.specs.declared.Stored.{Stored}
+use Rattle.stores.specs.declared.Stored.the-variants.{AllStored, NoneStored}
+
+-- a store that can be done leaves it to those after it
+abbrev pub orElse : Access → Reach → Stored → Stored
+orElse a Ready next = next
+orElse a (Blocked failure) next = NoneStored a failure
+
+-- what trying the stores in their order finds; an empty slot ends the list
+unfoldable pub tryAll : Lookup → List Slot → Stored
+tryAll look [] = AllStored
+tryAll look (Empty ∷ rest) = AllStored
+tryAll look (Store a v ∷ rest) = orElse a (probe look a) (tryAll look rest)
+
+-- the bytes that the stores leave once they are made, one after the other
+unfoldable pub writtenAll : Lookup → List Slot → List ℕ → List ℕ
+writtenAll look [] bytes = bytes
+writtenAll look (Empty ∷ rest) bytes = bytes
+writtenAll look (Store a v ∷ rest) bytes = writtenAll look rest (written look a v bytes)
+
+-- all of them, or none
+abbrev pub leftBy : Stored → List ℕ → List ℕ → List ℕ
+leftBy AllStored after before = after
+leftBy (NoneStored a failure) after before = before
