@@ -25,7 +25,7 @@ page-end n h = omega arith
 -- ---- a test of every entry
 
 -- neither of two tests found anything
-pub neither : (a b : Bool) → (a || b) ≡ false → (a ≡ false) × (b ≡ false)
+neither : (a b : Bool) → (a || b) ≡ false → (a ≡ false) × (b ≡ false)
 neither true b e = absurd (true≢false e)
 neither false b e = (refl, e)
 
@@ -106,6 +106,6 @@ unfolding listing wrongLength
 list-valid entries lent h = rw (le-ltb pageLimit (length entries) (h .few), eq-eqb lent (pageBytes * length entries) (h .whole), h .kinds, h .addresses, h .apart)
 
 -- refusal 1 comes before all else
-pub too-many : (entries : List ℕ) (lent : ℕ) → pageLimit < length entries → listing entries lent ≡ BadLength
+pub too-many-entries : (entries : List ℕ) (lent : ℕ) → pageLimit < length entries → listing entries lent ≡ BadLength
 unfolding listing wrongLength
-too-many entries lent more = rw (lt-ltb pageLimit (length entries) more)
+too-many-entries entries lent more = rw (lt-ltb pageLimit (length entries) more)
