@@ -10,7 +10,7 @@
 --     page-end                             a page of 64-bit addresses ends at 2^64 or before
 -- Page lists:
 --     none-passes, each-fails              no entry passes a test (`anyEntry`), exactly where none passes at any place (`EachFails`)
---     once-apart, apart-once               no page address stands twice (`repeated`), exactly where no two entries have one page (`Apart`)
+--     once-apart, apart-once               no page address stands twice (`repeated`), exactly where entries of one page are one entry (`Apart`)
 --     valid-list, list-valid               a list is valid (`listing`) exactly where it breaks none of the four rules (`ValidList`)
 --     too-many-entries                     refusal 1 comes before all else
 -- Assumes nothing.

@@ -46,29 +46,39 @@ each-fails test (entry ∷ rest) each = rw (each 0 (omega arith)) (each-fails te
 
 -- ---- equal addresses
 
--- no two entries have one page: by their places, and by the pages' numbers, counted from address 0
+-- entries of one page are one entry: by their places, and by the page's number, counted from address 0
 abbrev pub Apart : List ℕ → Type 0
-Apart entries = (i j : ℕ) → i < j → j < length entries → getD entries i 0 / pageBytes ≡ getD entries j 0 / pageBytes → ⊥
-
-pub once-apart : (entries : List ℕ) → repeated entries ≡ false → Apart entries
-unfolding repeated onPage pageOf
-once-apart [] once i j h inside e = omega arith
-once-apart (entry ∷ rest) once i zero h inside e = omega arith
-once-apart (entry ∷ rest) once zero (suc j) h inside e =
-    let others = neither (anyEntry (onPage (pageOf entry)) rest) (repeated rest) once .0 in
-    eqb-false _ _ (none-passes (onPage (pageOf entry)) rest others j (omega arith)) (ap (λ (n : ℕ). n * pageBytes) (sym e))
-once-apart (entry ∷ rest) once (suc i) (suc j) h inside e =
-    once-apart rest (neither (anyEntry (onPage (pageOf entry)) rest) (repeated rest) once .1) i j (omega arith) (omega arith) e
+Apart entries = (i j : ℕ) → i < length entries → j < length entries → getD entries i 0 / pageBytes ≡ getD entries j 0 / pageBytes → i ≡ j
 
 same-number : (a b : ℕ) → b / pageBytes * pageBytes ≡ a / pageBytes * pageBytes → a / pageBytes ≡ b / pageBytes
 same-number a b e = omega arith
+
+-- the first entry's page is no other's, and so on
+once-parts : (entry : ℕ) (rest : List ℕ) → repeated (entry ∷ rest) ≡ false → (anyEntry (onPage (pageOf entry)) rest ≡ false) × (repeated rest ≡ false)
+unfolding repeated
+once-parts entry rest once = neither (anyEntry (onPage (pageOf entry)) rest) (repeated rest) once
+
+first-apart : (entry : ℕ) (rest : List ℕ) → repeated (entry ∷ rest) ≡ false → (j : ℕ) → j < length rest → entry / pageBytes ≡ getD rest j 0 / pageBytes → ⊥
+unfolding onPage pageOf
+first-apart entry rest once j k e =
+    eqb-false _ _ (none-passes (onPage (pageOf entry)) rest (once-parts entry rest once .0) j k) (ap (λ (n : ℕ). n * pageBytes) (sym e))
+
+pub once-apart : (entries : List ℕ) → repeated entries ≡ false → Apart entries
+once-apart [] once i j h k e = absurd (omega arith)
+once-apart (entry ∷ rest) once zero zero h k e = refl
+once-apart (entry ∷ rest) once zero (suc j) h k e = absurd (first-apart entry rest once j (omega arith) e)
+once-apart (entry ∷ rest) once (suc i) zero h k e = absurd (first-apart entry rest once i (omega arith) (sym e))
+once-apart (entry ∷ rest) once (suc i) (suc j) h k e = ap suc (once-apart rest (once-parts entry rest once .1) i j (omega arith) (omega arith) e)
 
 pub apart-once : (entries : List ℕ) → Apart entries → repeated entries ≡ false
 unfolding repeated onPage pageOf
 apart-once [] apart = refl
 apart-once (entry ∷ rest) apart =
-    let others = each-fails (onPage (pageOf entry)) rest (λ j h. ne-eqb _ _ (λ same. apart 0 (suc j) (omega arith) (omega arith) (same-number entry (getD rest j 0) same))) in
-    rw others (apart-once rest (λ i j h inside. apart (suc i) (suc j) (omega arith) (omega arith)))
+    rw (each-fails (onPage (pageOf entry)) rest (λ j h. ne-eqb _ _ (λ same. first j h (same-number entry (getD rest j 0) same))))
+    (apart-once rest (λ i j h k e. let same : suc i ≡ suc j = apart (suc i) (suc j) (omega arith) (omega arith) e in omega arith))
+  where
+    first : (j : ℕ) → j < length rest → entry / pageBytes ≡ getD rest j 0 / pageBytes → ⊥
+    first j h e = let same : 0 ≡ suc j = apart 0 (suc j) (omega arith) (omega arith) e in omega arith
 
 -- ---- a valid list
 
