@@ -6,6 +6,7 @@ use mathlib.Core.Logic.{⊎-elim}
 use native.Mathlib.Omega.{arith}
 use lib.ListN.{length, getD, take, drop}
 use Rattle.pages.specs.Pages.{pageBytes, pageOf}
+use Rattle.pages.proofs.Laws.{page-and-offset}
 use Rattle.sheet.specs.Lines.{line, joined}
 use Rattle.sheet.specs.Sheets.{Page, frameOf, little, wordLine, wordLines, slots, doLines}
 use Rattle.sheet.specs.declared.line.Line.the-variants.{Page as PageLine, Do}
@@ -118,8 +119,10 @@ entry-text pass entry page e = rw e (joined-one (line PageLine (entry ∷ [])))
 -- its values, by the number of the page
 pub values-text : (pass : Pass) (entry : ℕ) (page : List ℕ) (frame : ℕ) → pass ≡ Values → frame ≡ frameOf entry
     → joined (linesOf pass (record { entry = entry; bytes = page })) ≡ joined (wordLines (frame * pageBytes) slots page)
-unfolding pageOf frameOf
-values-text pass entry page frame e frame-is = rw (e, frame-is)
+unfolding frameOf
+values-text pass entry page frame e frame-is =
+    let first : pageOf entry ≡ frame * pageBytes = omega (arith, page-and-offset entry) in
+    rw (e, first)
 
 -- a page ends at 2^64 or before
 pub page-below : (entry frame : ℕ) → entry < 2 ^ 64 → frame ≡ frameOf entry → frame * pageBytes + pageBytes ≤ 2 ^ 64
