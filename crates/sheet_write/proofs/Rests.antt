@@ -89,7 +89,10 @@ module _ (entries bytes : List ℕ) (least place : ℕ) (nearest : Nearest entri
     next-page : from least (inOrder entries bytes) ≡ pageIn entries bytes place ∷ from (frameOf (getD entries place 0) + 1) (inOrder entries bytes)
     next-page =
         next-left entries bytes least place h (nearest .own h)
-        (λ i inside other at. let behind = nearest .first i inside at .1 in let apart : frameOf (getD entries i 0) ≡ frameOf (getD entries place 0) → ⊥ = λ e. other (lent .apart i place inside h e) in omega arith)
+        (λ i inside other at.
+        let behind = nearest .first i inside at .1 in
+        let apart : frameOf (getD entries i 0) ≡ frameOf (getD entries place 0) → ⊥ = λ e. other (lent .apart i place inside h e) in
+        omega arith)
 
     module _ (frame : ℕ) (frame-is : frame ≡ frameOf (getD entries place 0)) where
       -- the page as the code lends it
@@ -97,7 +100,9 @@ module _ (entries bytes : List ℕ) (least place : ℕ) (nearest : Nearest entri
           → Begins (pagesFrom pass entries bytes least)
           (joined (linesOf pass (record { entry = getD entries place 0; bytes = take (pageBytes * place + pageBytes - pageBytes * place) (drop (pageBytes * place) bytes) })))
           (pagesFrom pass entries bytes (frame + 1))
-      pages-turn pass = rw (frame-is, part (pageBytes * place) pageBytes bytes, next-page) (pages-cons pass (pageIn entries bytes place) (from (frameOf (getD entries place 0) + 1) (inOrder entries bytes)))
+      pages-turn pass =
+          rw (frame-is, part (pageBytes * place) pageBytes bytes, next-page)
+          (pages-cons pass (pageIn entries bytes place) (from (frameOf (getD entries place 0) + 1) (inOrder entries bytes)))
 
       pub pages-less : length (from (frame + 1) (inOrder entries bytes)) < length (from least (inOrder entries bytes))
       pages-less = rw frame-is (let one = ap length next-page in omega arith)
