@@ -9,6 +9,7 @@ use borrow.Author.Tests.{ltb-true, eqb-true, eqb-false, not-true, eq-eqb}
 use Rattle.memory.specs.Access.{byteCount}
 use Rattle.pages.specs.Address.{wrapped}
 use Rattle.pages.specs.Pages.{Lookup}
+use Rattle.pages.proofs.Laws.{plus-back, plus-twice, minus-back}
 use Rattle.processor.specs.State.{widthOf, userMode, enabled, usable, permitted, plus, minus}
 use Rattle.answers.specs.declared.answer.Answer.the-variants.{Completed}
 use Rattle.processor.specs.declared.state.State.{State}
@@ -24,7 +25,6 @@ use Rattle.claims.specs.Ledger.{frameBytes, popped, isNextLine, pushedBy
 use Rattle.claims.proofs.CodeNames.{Named, wrss, incssp, rstorssp, saveprevssp, call, ret, wruss, unknown, named}
 use Rattle.claims.proofs.Leaves.{Leaves, then-leaves, performed}
 use Rattle.claims.proofs.OperationLeaves.{Kept, Pointer, incssp-leaves, wrss-leaves, rstorssp-leaves, pastToken, saveprevssp-leaves, belowPushed, call-leaves, pastFrame, ret-leaves, wruss-leaves}
-use Rattle.claims.proofs.PointerSums.{plus-back, plus-twice, minus-back}
 use Rattle.claims.proofs.RangeParts.{both, InRange}
 
 -- ---- the permission bits play no part

@@ -8,6 +8,7 @@ use Rattle.memory.specs.Access.{lookupOf}
 use Rattle.pages.specs.Address.{wrapped}
 use Rattle.pages.specs.declared.address.Width.{Width}
 use Rattle.pages.specs.declared.address.Width.the-variants.{Bits32, Bits64}
+use Rattle.pages.proofs.Laws.{moves-add}
 use Rattle.processor.specs.State.{widthOf}
 use Rattle.processor.specs.declared.state.State.{State}
 use Rattle.instructions.specs.Instruction.{instructionAt}
@@ -17,7 +18,6 @@ use Rattle.instructions.specs.declared.instruction.Instruction.{Instruction}
 use Rattle.claims.specs.Ledger.{popped, pushedBy, sumOf, Ledger}
 use Rattle.claims.proofs.KeptAlong.{run-keeps}
 use Rattle.claims.proofs.Completions.{Completes, completion}
-use Rattle.claims.proofs.PointerSums.{moves-add}
 
 same-width : (s t : State) → t .mode ≡ s .mode → widthOf t ≡ widthOf s
 same-width s t e = ap (λ (mode : ℕ). cond (eqb mode 2) Bits64 Bits32) e

@@ -31,6 +31,4 @@ mod OperationStops
 mod CodeNames
 mod Completions
 mod RangeParts
-mod PointerSums
 mod KeptAlong
-mod OtherKinds

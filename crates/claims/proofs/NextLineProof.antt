@@ -2,7 +2,7 @@
 use Prim.Native.Nat.{ℕ}
 use mathlib.Core.Bool.{Bool, true, false, not, cond, _&&_}
 use mathlib.Core.List.{List}
-use mathlib.Core.Path.{_≡_, refl, ap}
+use mathlib.Core.Path.{_≡_, refl, sym, _∙_, ap}
 use lib.Dec.{eqb}
 use lib.ListN.{length as count}
 use lib.IntN.{ℤ, pos, negsuc}
@@ -10,8 +10,12 @@ use Rattle.memory.specs.Access.{byteCount, probe, written}
 use Rattle.memory.specs.Extends.{Places, cell}
 use Rattle.pages.specs.Pages.{Lookup}
 use Rattle.memory.specs.declared.access.Access.{Access}
+use Rattle.memory.specs.declared.access.Failure.the-variants.{NotCanonical, NotListed, WrongKind}
 use Rattle.memory.specs.declared.access.Reach.{Reach}
 use Rattle.memory.specs.declared.access.Reach.the-variants.{Ready, Blocked}
+use Rattle.pages.specs.declared.pages.Spot.{Spot}
+use Rattle.pages.specs.declared.pages.Spot.the-variants.{Unlisted, At}
+use Rattle.memory.proofs.Laws.{isKind, kindAside, same-kind-probe, written-on-kind}
 use Rattle.processor.specs.Accesses.{ordinary}
 use Rattle.answers.specs.Answer.{ss, gp}
 use Rattle.processor.specs.Prog.{Prog, done, _>>=_, _>>_, store, unless, Result, ended, onReach, interp, Step, settle, operate}
@@ -26,7 +30,6 @@ use Rattle.perform.specs.Exec.{operationOf, exec, refused, perform}
 use Rattle.perform.specs.Codes.{target, framed, operation, codes}
 use Rattle.instructions.specs.declared.instruction.Instruction.{Instruction}
 use Rattle.claims.specs.NextLine.{isOrdinary, SameOrdinary, withShadow, SameNextLine, NextLineUntouched}
-use Rattle.claims.proofs.OtherKinds.{tried-alike, kept-elsewhere}
 
 -- two tests and one push
 abbrev onePush : Bool → Bool → Access → ℕ → State → Prog State
@@ -72,6 +75,25 @@ newSp s = minus (hidden s) (s .sp) (byteCount (pushed (hidden s)))
 abbrev push : State → Access
 push s = ordinary (hidden s) (newSp s) (pushed (hidden s)) true
 
+-- ordinary is kind 3
+is-kind-3 : (at : Spot) → isKind 3 at ≡ isOrdinary at
+is-kind-3 Unlisted = refl
+is-kind-3 (At kind place) = refl
+
+-- over two memories with the same ordinary pages: a byte on no page and one on a shadow page give the same fault
+module _ {A : Type 0} (s : State) (look₁ look₂ : Lookup) (same : SameOrdinary look₁ look₂) (go : Result A) where
+  one-fault : (r : Reach) → onReach (push s) r go ≡ onReach (push s) (kindAside r) go
+  one-fault Ready = refl
+  one-fault (Blocked NotCanonical) = refl
+  one-fault (Blocked (NotListed address)) = refl
+  one-fault (Blocked (WrongKind address)) = refl
+
+  tried-alike : onReach (push s) (probe look₁ (push s)) go ≡ onReach (push s) (probe look₂ (push s)) go
+  tried-alike =
+      one-fault (probe look₁ (push s))
+      ∙ ap (λ (r : Reach). onReach (push s) r go) (same-kind-probe look₁ look₂ (push s) (λ address. is-kind-3 (look₁ address) ∙ same address ∙ sym (is-kind-3 (look₂ address))))
+      ∙ sym (one-fault (probe look₂ (push s)))
+
 -- what is done by the two tests' outcomes, with the push and the pointers of s, from a state that may have another CR4.CET and SSP
 abbrev byTests : Bool → Bool → ℕ → ℕ → State → State → Prog State
 byTests inside fits to length s from =
@@ -94,7 +116,7 @@ module _ (look₁ look₂ : Lookup) (same : SameOrdinary look₁ look₂) (to le
   pushed-alike : (left₁ left₂ : List ℕ)
       → Alike cet ssp (settle s bytes₁ (onReach (push s) (probe look₁ (push s)) (ended (after s) left₁))) (settle other bytes₂ (onReach (push s) (probe look₂ (push s)) (ended (after other) left₂)))
   unfolding hidden shown
-  pushed-alike left₁ left₂ = rw (← tried-alike (hidden s) (newSp s) (pushed (hidden s)) (ended (after other) left₂) look₁ look₂ same) (by (probe look₁ (push s)))
+  pushed-alike left₁ left₂ = rw (← tried-alike s look₁ look₂ same (ended (after other) left₂)) (by (probe look₁ (push s)))
     where
       by : (r : Reach) → Alike cet ssp (settle s bytes₁ (onReach (push s) r (ended (after s) left₁))) (settle other bytes₂ (onReach (push s) r (ended (after other) left₂)))
       by Ready = (refl, refl)
@@ -132,7 +154,7 @@ module _ (look : Lookup) (to length : ℕ) (s : State) (bytes : List ℕ) (place
   plain-kept = go (inCode (hidden s) to) (not (runsPast (hidden s) (newSp s)))
     where
       by : (r : Reach) (after : State) → probe look (push s) ≡ r → Kept (settle s bytes (onReach (push s) r (ended after (written look (push s) (next (hidden s) length) bytes))))
-      by Ready after e = kept-elsewhere look bytes places (hidden s) (newSp s) (pushed (hidden s)) (next (hidden s) length) address e off
+      by Ready after e = written-on-kind look bytes places (push s) (next (hidden s) length) address e (is-kind-3 (look address) ∙ off)
       by (Blocked failure) after e = refl
 
       go : (b c : Bool) → Kept (settle s bytes (interp look (byTests b c to length s s) bytes))

@@ -8,6 +8,8 @@ use borrow.Author.Tests.{leb-true, eqb-true}
 use Rattle.memory.specs.Access.{byteCount}
 use Rattle.memory.specs.declared.access.Size.{Size}
 use Rattle.memory.specs.declared.access.Size.the-variants.{Four, Eight}
+use Rattle.pages.specs.declared.address.Width.the-variants.{Bits32}
+use Rattle.pages.proofs.Laws.{plus-below, minus-below, plus-aligned, minus-aligned}
 use Rattle.answers.specs.Answer.{ud, ss, gp, cpNearRet, cpRstorssp}
 use Rattle.processor.specs.State.{isLong, widthOf, enabled, usable, plus, minus, next}
 use Rattle.processor.specs.Layout.{withIp}
@@ -21,7 +23,6 @@ use Rattle.saveprevssp.specs.Saveprevssp.{carry, popHole, newTop, savedToken, l
 use Rattle.call.specs.Call.{inCode, pushed, runsPast, pushesFrame, call}
 use Rattle.ret.specs.Ret.{popFrame, newSsp, ret}
 use Rattle.claims.proofs.Leaves.{either, Leaves, then-leaves, all-leaves, tested-leaves}
-use Rattle.claims.proofs.PointerSums.{plus-below, minus-below, plus-aligned, minus-aligned, bytes-aligned}
 use Rattle.claims.proofs.RangeParts.{InRange}
 
 -- from s to t with this new SSP: the mode stays, and so do the ranges
@@ -60,11 +61,11 @@ kept s ip sp ssp flags ip-fits sp-fits ssp-fits aligned =
 
 plus-fits : (s : State) (a b : ℕ) → Pointer s (plus s a b)
 unfolding plus
-plus-fits s a b h long = rw long (plus-below a b)
+plus-fits s a b h long = rw long (plus-below Bits32 a b)
 
 minus-fits : (s : State) (a b : ℕ) → Pointer s (minus s a b)
 unfolding minus
-minus-fits s a b h long = rw long (minus-below a b)
+minus-fits s a b h long = rw long (minus-below Bits32 a b)
 
 next-fits : (s : State) (length : ℕ) → Pointer s (next s length)
 unfolding next
@@ -94,6 +95,10 @@ unfolding minus
 minus-of-4 s a Four h = minus-aligned (widthOf s) a 4 h refl
 minus-of-4 s a Eight h = minus-aligned (widthOf s) a 8 h refl
 
+bytes-of-4 : (size : Size) (n : ℕ) → byteCount size * n % 4 ≡ 0
+bytes-of-4 Four n = omega arith
+bytes-of-4 Eight n = omega arith
+
 size-of-4 : (size : Size) → byteCount size % 4 ≡ 0
 size-of-4 Four = refl
 size-of-4 Eight = refl
@@ -114,7 +119,7 @@ incssp-leaves size b length s =
     tested-leaves _ (usable s) ud _ (λ u.
     all-leaves _ _ _ (λ x.
     all-leaves _ _ _ (λ y.
-    kept s _ _ _ _ (next-fits s length) (sp-fits s) (plus-fits s (s .ssp) popped) (λ h. plus-of-4 s (s .ssp) popped (h .aligned) (bytes-aligned size (b % 256))))))
+    kept s _ _ _ _ (next-fits s length) (sp-fits s) (plus-fits s (s .ssp) popped) (λ h. plus-of-4 s (s .ssp) popped (h .aligned) (bytes-of-4 size (b % 256))))))
 
 pub wrss-leaves : (size : Size) (permitted : Bool) (a b length : ℕ) (s : State) → Leaves (Kept s (s .ssp)) (wrss size permitted a b length s)
 unfolding wrss Leaves

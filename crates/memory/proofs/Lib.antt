@@ -5,6 +5,7 @@ mod Cells
 mod Lookup
 mod Numbers
 mod OnePage
+mod OtherKinds
 mod PageLists
 mod PageParts
 mod Parts

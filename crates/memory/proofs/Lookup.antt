@@ -35,7 +35,14 @@ here i entry rest lent address kind place on e = go (ltb i (lent / pageBytes)) r
 
 there : (i entry : ℕ) (rest : List ℕ) (lent address kind place : ℕ) → Found rest (suc i) lent address kind place → Found (entry ∷ rest) i lent address kind place
 there i entry rest lent address kind place f =
-    record { j = suc (f .j); listed = omega arith; on = f .on; kind-is = f .kind-is; lent-whole = omega arith; place-is = f .place-is ∙ ap (λ (n : ℕ). pageBytes * n + address % pageBytes) (omega arith) }
+    record {
+      j = suc (f .j);
+      listed = omega arith;
+      on = f .on;
+      kind-is = f .kind-is;
+      lent-whole = omega arith;
+      place-is = f .place-is ∙ ap (λ (n : ℕ). pageBytes * n + address % pageBytes) (omega arith);
+    }
 
 step : (i entry : ℕ) (rest : List ℕ) (lent address kind place : ℕ) → (spotFrom (suc i) rest lent address ≡ At kind place → Found rest (suc i) lent address kind place)
     → (t : Bool) → onPage (pageOf address) entry ≡ t → cond t (inPage i entry lent address) (spotFrom (suc i) rest lent address) ≡ At kind place → Found (entry ∷ rest) i lent address kind place

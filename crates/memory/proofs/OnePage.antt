@@ -131,7 +131,8 @@ scan-all test w address (suc n) at each =
     (scan-all test w (plus w address 1) n (wrapped-plus w address 1) (λ i h. ap test (one-on w address i) ∙ each (suc i) (omega arith)))
 
 -- where the first byte being ready means that every byte is, the first decides
-scan-first : (test : ℕ → Reach) (w : Width) (address n : ℕ) → Wrapped w address → 0 < n → ((i : ℕ) → i < n → test address ≡ Ready → test (plus w address i) ≡ Ready) → scan test w address n ≡ test address
+scan-first : (test : ℕ → Reach) (w : Width) (address n : ℕ) → Wrapped w address → 0 < n → ((i : ℕ) → i < n → test address ≡ Ready → test (plus w address i) ≡ Ready)
+    → scan test w address n ≡ test address
 scan-first test w address n at more each = go (test address) refl
   where
     go : (r : Reach) → test address ≡ r → scan test w address n ≡ r

@@ -47,7 +47,8 @@ pages-extend pages₁ bytes₁ pages₂ bytes₂ valid₂ holds = record {
 }
 
 -- The order of a list has no meaning: two valid lists of the same pages hold the same at every address.
-pub order-free : (pages₁ bytes₁ pages₂ bytes₂ : List ℕ) → listing pages₁ (length bytes₁) ≡ Valid → listing pages₂ (length bytes₂) ≡ Valid → HoldsPages pages₁ bytes₁ pages₂ bytes₂ → HoldsPages pages₂ bytes₂ pages₁ bytes₁
+pub order-free : (pages₁ bytes₁ pages₂ bytes₂ : List ℕ) → listing pages₁ (length bytes₁) ≡ Valid → listing pages₂ (length bytes₂) ≡ Valid
+    → HoldsPages pages₁ bytes₁ pages₂ bytes₂ → HoldsPages pages₂ bytes₂ pages₁ bytes₁
     → (address : ℕ) → cell (lookupOf pages₁ bytes₁) bytes₁ address ≡ cell (lookupOf pages₂ bytes₂) bytes₂ address
 unfolding lookupOf
 order-free pages₁ bytes₁ pages₂ bytes₂ valid₁ valid₂ there back address =

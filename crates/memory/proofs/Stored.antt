@@ -30,7 +30,8 @@ not-back Bits64 a i h k e = omega arith
 
 -- ---- every other address
 
-put-elsewhere : (look : Lookup) (bytes : List ℕ) → Places look (length bytes) → (address byte other : ℕ) → (other ≡ address → ⊥) → cell look (putByte (look address) byte bytes) other ≡ cell look bytes other
+put-elsewhere : (look : Lookup) (bytes : List ℕ) → Places look (length bytes) → (address byte other : ℕ) → (other ≡ address → ⊥)
+    → cell look (putByte (look address) byte bytes) other ≡ cell look bytes other
 put-elsewhere look bytes places address byte other off = go (look address) refl
   where
     go : (spot : Spot) → look address ≡ spot → cell look (putByte spot byte bytes) other ≡ cell look bytes other
@@ -79,7 +80,8 @@ number-written look kind w address (suc n) v bytes places h k e =
     ∙ digits v n
 
 -- a load of what was stored gives its low bytes back
-pub value-written : (look : Lookup) (bytes : List ℕ) → Places look (length bytes) → (a : Access) (v : ℕ) → probe look a ≡ Ready → value look (written look a v bytes) a ≡ v % 2 ^ (8 * byteCount (a .size))
+pub value-written : (look : Lookup) (bytes : List ℕ) → Places look (length bytes) → (a : Access) (v : ℕ) → probe look a ≡ Ready
+    → value look (written look a v bytes) a ≡ v % 2 ^ (8 * byteCount (a .size))
 unfolding written value listedBytes
 value-written look bytes places a v e =
     number-written look (kindNumber (a .kind)) (a .width) (start a) (byteCount (a .size)) v bytes places (wrapped-start (a .width) (a .first)) (at-most-eight (a .size)) (probe-ready look a e .1)

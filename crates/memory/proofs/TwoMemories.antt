@@ -9,7 +9,8 @@ use lib.ListN.{length, getD}
 use lib.Dec.{eqb}
 use Rattle.pages.specs.Address.{plus, canonical}
 use Rattle.pages.specs.Pages.{Lookup}
-use Rattle.memory.specs.Access.{kindNumber, byteCount, andThen, scan, start, onKind, listedByte, canonicalBytes, listedBytes, probe, byteIn, number, value, loadedIf, load, putByte, write, written, storedIf, store}
+use Rattle.memory.specs.Access.{kindNumber, byteCount, andThen, scan, start, onKind, listedByte, canonicalBytes, listedBytes, probe}
+use Rattle.memory.specs.Access.{byteIn, number, value, loadedIf, load, putByte, write, written, storedIf, store}
 use Rattle.memory.specs.Extends.{cellIn, present, cell, Extends, Places}
 use Rattle.pages.specs.declared.address.Width.{Width}
 use Rattle.pages.specs.declared.pages.Spot.{Spot}
@@ -63,7 +64,8 @@ unfolding scan
 listed-never look kind w address zero e = let z : _≡_ {A = ℕ} 0 1 = cc in omega arith
 listed-never look kind w address (suc n) e = first (listedByte look kind address) refl (listed-never look kind w (plus w address 1) n) e
   where
-    first : (r : Reach) → listedByte look kind address ≡ r → (scan (listedByte look kind) w (plus w address 1) n ≡ Blocked NotCanonical → ⊥) → andThen r (scan (listedByte look kind) w (plus w address 1) n) ≡ Blocked NotCanonical → ⊥
+    first : (r : Reach) → listedByte look kind address ≡ r → (scan (listedByte look kind) w (plus w address 1) n ≡ Blocked NotCanonical → ⊥)
+        → andThen r (scan (listedByte look kind) w (plus w address 1) n) ≡ Blocked NotCanonical → ⊥
     first Ready h later q = later q
     first (Blocked failure) h later q = listed-byte-never look kind address (h ∙ q)
 
@@ -212,7 +214,8 @@ module _ (look₁ : Lookup) (bytes₁ : List ℕ) (look₂ : Lookup) (bytes₂ :
   alike-probe a =
       let kind : ℕ = kindNumber (a .kind) in
       ap (andThen (canonicalBytes a))
-      (scan-alike (listedByte look₁ kind) (listedByte look₂ kind) (λ address. onKind-alike bytes₁ bytes₂ kind address (look₁ address) (look₂ address) (same address)) (a .width) (start a) (byteCount (a .size)))
+      (scan-alike (listedByte look₁ kind) (listedByte look₂ kind)
+      (λ address. onKind-alike bytes₁ bytes₂ kind address (look₁ address) (look₂ address) (same address)) (a .width) (start a) (byteCount (a .size)))
 
   number-alike : (w : Width) (address n : ℕ) → number look₁ bytes₁ w address n ≡ number look₂ bytes₂ w address n
   unfolding number

@@ -1,3 +1,7 @@
+-- Laws that belong to no one function. The crates above the memory cite `Laws` alone; the memory itself also cites Sums and Steps.
+pub mod Laws
 pub mod Sums
 pub mod Steps
 mod KindTests
+mod Lists
+mod Moves

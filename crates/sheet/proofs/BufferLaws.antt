@@ -69,7 +69,9 @@ laid-last out at piece x room =
     let q : ℕ = at + length piece in
     let front : take at (set out q x) ≡ take at out = take-set-le at out q x (omega arith) in
     let back : drop q (set out q x) ≡ x ∷ drop (suc q) out =
-    drop-cons (set out q x) q 0 (lt-length-set out q x room) ∙ (ap (λ (n : ℕ). n ∷ drop (suc q) (set out q x)) (getD-set-same out q x 0 room) ∙ ap (λ (l : List ℕ). x ∷ l) (drop-set-lt (suc q) out q x (omega arith)))
+    drop-cons (set out q x) q 0 (lt-length-set out q x room)
+    ∙ ap (λ (n : ℕ). n ∷ drop (suc q) (set out q x)) (getD-set-same out q x 0 room)
+    ∙ ap (λ (l : List ℕ). x ∷ l) (drop-set-lt (suc q) out q x (omega arith))
     in
     let long : at + length (piece ++ (x ∷ [])) ≡ suc q = rw (length-append piece (x ∷ [])) (omega arith) in
     rw (front, back, long, append-assoc piece (x ∷ []) (drop (suc q) out))

@@ -120,4 +120,5 @@ line-laid out at kind vs named ended is-named is-ended room =
     let kept : length (laid out at (name kind)) ≡ length out = length-laid out at (name kind) (omega arith) in
     let fits : at + named + length (fields vs) ≤ length (laid out at (name kind)) = rw (kept, fields-length vs) (omega arith) in
     let last : at + named + length (fields vs) ≡ at + ended = rw (fields-length vs) (omega arith) in
-    rw (le-leb (at + length (name kind ++ (fields vs ++ (lineFeed ∷ [])))) (length out) whole) (rw (laid-turn out at (name kind) (fields vs ++ (lineFeed ∷ [])) (omega arith), ← is-named, laid-turn (laid out at (name kind)) (at + named) (fields vs) (lineFeed ∷ []) fits, last))
+    rw (le-leb (at + length (name kind ++ (fields vs ++ (lineFeed ∷ [])))) (length out) whole)
+    (rw (laid-turn out at (name kind) (fields vs ++ (lineFeed ∷ [])) (omega arith), ← is-named, laid-turn (laid out at (name kind)) (at + named) (fields vs) (lineFeed ∷ []) fits, last))

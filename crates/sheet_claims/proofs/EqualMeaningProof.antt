@@ -57,7 +57,8 @@ held-ascended : (pages₁ bytes₁ pages₂ bytes₂ : List ℕ) → HoldsPages 
 held-ascended pages₁ bytes₁ pages₂ bytes₂ holds =
     let ps₁ : List Page = pagesOf pages₁ bytes₁ in
     let ps₂ : List Page = pagesOf pages₂ bytes₂ in
-    every-ascended (λ r. List·Memᴰ r (ascended ps₂)) ps₁ (every-map (λ r. List·Memᴰ r ps₂) (λ r. List·Memᴰ r (ascended ps₂)) ps₁ (λ r. mem-ascended r ps₂) (lent-held pages₁ bytes₁ pages₂ bytes₂ holds))
+    every-ascended (λ r. List·Memᴰ r (ascended ps₂)) ps₁
+    (every-map (λ r. List·Memᴰ r ps₂) (λ r. List·Memᴰ r (ascended ps₂)) ps₁ (λ r. mem-ascended r ps₂) (lent-held pages₁ bytes₁ pages₂ bytes₂ holds))
 
 pub equal-text : EqualText
 unfolding savedOf

@@ -9,6 +9,7 @@ use lib.ListN.{length, take, drop}
 use lib.Seq.{take-at}
 use lib.Dec.{eqb, leb}
 use borrow.Author.Tests.{eqb-true, eq-eqb}
+use Rattle.pages.proofs.Laws.{valid-list, list-valid}
 use Rattle.processor.specs.State.{inRange}
 use Rattle.processor.specs.Layout.{stateOf}
 use Rattle.replay.specs.Run.{check}
@@ -18,7 +19,7 @@ use Rattle.sheet.specs.Buffers.{laid}
 use Rattle.sheet.specs.Sheets.{Saved, savedOf, entriesOf, bytesOf, text}
 use Rattle.sheet.specs.Reading.{Parsed, sheet, noSheet, parsed}
 use Rattle.sheet.proofs.DigitLaws.{both}
-use Rattle.sheet.proofs.TestedLaws.{Passes, passes, passed, valid-list, list-valid}
+use Rattle.sheet.proofs.TestedLaws.{Passes, passes, passed}
 use Rattle.sheet_read.specs.Reads.{Buffers, Read, byTest, byText, tested, fits, filled, sizesOf, reads}
 use Rattle.sheet_read.specs.declared.buffers.Sizes.{Sizes}
 use Rattle.sheet_read.specs.declared.buffers.Reading.the-variants.{Done as ReadDone, TooLong as ReadTooLong}

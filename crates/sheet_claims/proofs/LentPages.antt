@@ -8,9 +8,9 @@ use lib.Seq.{drop-drop}
 use Rattle.pages.specs.Pages.{pageBytes, listing}
 use Rattle.memory.specs.Extends.{pageAt, HoldsPages}
 use Rattle.pages.specs.declared.pages.Listing.the-variants.{Valid}
+use Rattle.pages.proofs.Laws.{valid-list}
 use Rattle.sheet.specs.Sheets.{Page, Ascending, pagesOf, ascended, entriesOf}
 use Rattle.sheet_claims.proofs.Ordered.{Every, ascended-ascending}
-use Rattle.sheet.proofs.TestedLaws.{valid-list}
 
 -- the i-th page
 abbrev pub lentPage : List ℕ → List ℕ → ℕ → Page

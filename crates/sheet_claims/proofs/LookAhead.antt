@@ -121,5 +121,7 @@ stages-stop xs l rest other h =
     let fewer = looks-behind (numbers PageLine (take c (xs ++ l ∷ rest))) .shorter (drop c (xs ++ l ∷ rest)) in
     let first
     = stops-count pageCount (λ k l. isLine PageLine l && leb k (frameOf (value PageLine 0 l))) (λ k l. suc (frameOf (value PageLine 0 l))) (λ k l ls. refl) 0 xs l rest (omega arith) in
-    let second = looks-behind (numbers PageLine (first .0)) .stops (first .1) l rest (subst₂ (λ (taken left : List (List ℕ)). length rest < length (leftBehind (numbers PageLine taken) left)) (first .2 rest .0) (first .2 rest .1) h) in
+    let second
+    = looks-behind (numbers PageLine (first .0)) .stops (first .1) l rest
+    (subst₂ (λ (taken left : List (List ℕ)). length rest < length (leftBehind (numbers PageLine taken) left)) (first .2 rest .0) (first .2 rest .1) h) in
     rw (first .2 other .0, first .2 other .1, second .1 other, length-append) (omega arith)

@@ -1,17 +1,17 @@
 -- The pages in ascending order: the same pages, whatever their order was, and strictly ascending where no two have one address.
 -- Assumes nothing.
-use Prim.Native.Nat.{ℕ, suc, _/_, _*_, _<_, _≤_}
+use Prim.Native.Nat.{ℕ, zero, suc, _<_, _≤_}
 use mathlib.Core.Bool.{Bool, true, false, cond}
 use mathlib.Core.List.{List, [], _∷_, List·Memᴰ, List·Memᴰ·head, List·Memᴰ·tail, List·Memᴰ·cases-cons, Memᴰ·cast}
 use mathlib.Core.Logic.{_⊎_, inl, inr}
 use mathlib.Core.Path.{_≡_, refl, sym, ap, _∙_, subst}
 use native.Mathlib.Omega.{arith}
-use lib.ListN.{length}
+use lib.ListN.{length, getD}
 use lib.Dec.{leb}
-use borrow.Author.Tests.{le-leb, leb-true, leb-false, eqb-false, ne-eqb}
-use Rattle.pages.specs.Pages.{pageOf, onPage, anyEntry, repeated}
+use borrow.Author.Tests.{le-leb, leb-true, leb-false}
+use Rattle.pages.specs.Pages.{anyEntry, repeated}
+use Rattle.pages.proofs.Laws.{none-passes, each-fails, Apart, once-apart, apart-once}
 use Rattle.sheet.specs.Sheets.{Page, frameOf, Ascending, insert, ascended, entriesOf}
-use Rattle.sheet.proofs.TestedLaws.{neither}
 
 -- ---- every page of a list
 
@@ -48,10 +48,13 @@ still-there : {q r : Page} {qs rs : List Page} → (List·Memᴰ r qs → List·
 still-there keep (List·Memᴰ·head e) = List·Memᴰ·head e
 still-there keep (List·Memᴰ·tail m) = List·Memᴰ·tail (keep m)
 
--- of two pages, neither on the other's address, the one that is not above is below
-below-other : (a b : ℕ) → onPage (pageOf a) b ≡ false → frameOf a ≤ frameOf b → frameOf a < frameOf b
-unfolding onPage pageOf frameOf
-below-other a b e low = let differ = eqb-false (b / 4096 * 4096) (a / 4096 * 4096) e in omega arith
+-- the entry has another page
+abbrev Other : ℕ → ℕ → Type 0
+Other entry n = frameOf entry ≡ frameOf n → ⊥
+
+-- of two pages with different addresses, the one that is not above is below
+below-other : (a b : ℕ) → Other a b → frameOf a ≤ frameOf b → frameOf a < frameOf b
+below-other a b other low = omega arith
 
 module _ (p : Page) where
   every-inserted : (P : Page → Type 0) {qs rs : List Page} → Inserted p qs rs → P p → Every P qs → Every P rs
@@ -75,8 +78,8 @@ module _ (p : Page) where
   length-inserted (later high i) = ap suc (length-inserted i)
 
   -- no page of the list has its address
-  ascending-inserted : {qs rs : List Page} → Inserted p qs rs → (least : ℕ) → least ≤ frameOf (p .entry) → Every (λ q. onPage (pageOf (p .entry)) (q .entry) ≡ false) qs → Ascending least qs
-      → Ascending least rs
+  ascending-inserted : {qs rs : List Page} → Inserted p qs rs → (least : ℕ) → least ≤ frameOf (p .entry) → Every (λ q. Other (p .entry) (q .entry)) qs
+      → Ascending least qs → Ascending least rs
   unfolding Ascending
   ascending-inserted last least low apart up = (low, up)
   ascending-inserted (here {q} near) least low apart up = (low, (below-other (p .entry) (q .entry) (apart .0) near, up .1))
@@ -103,26 +106,36 @@ unfolding ascended
 length-ascended [] = refl
 length-ascended (p ∷ ps) = length-inserted p (inserted p (ascended ps)) ∙ ap suc (length-ascended ps)
 
--- ---- tests on all entries
+-- ---- what all entries have, by the pages and by the entries' places
+
+every-at : (P : ℕ → Type 0) (ps : List Page) → ((i : ℕ) → i < length (entriesOf ps) → P (getD (entriesOf ps) i 0)) → Every (λ p. P (p .entry)) ps
+unfolding entriesOf
+every-at P [] each = tt
+every-at P (p ∷ ps) each = (each 0 (omega arith), every-at P ps (λ i h. each (suc i) (omega arith)))
+
+at-every : (P : ℕ → Type 0) (ps : List Page) → Every (λ p. P (p .entry)) ps → (i : ℕ) → i < length (entriesOf ps) → P (getD (entriesOf ps) i 0)
+unfolding entriesOf
+at-every P [] all i h = absurd (omega arith)
+at-every P (p ∷ ps) all zero h = all .0
+at-every P (p ∷ ps) all (suc i) h = at-every P ps (all .1) i (omega arith)
 
 pub any-every : (test : ℕ → Bool) (ps : List Page) → anyEntry test (entriesOf ps) ≡ false → Every (λ p. test (p .entry) ≡ false) ps
-unfolding anyEntry entriesOf
-any-every test [] e = tt
-any-every test (p ∷ ps) e = let parts = neither (test (p .entry)) (anyEntry test (entriesOf ps)) e in (parts .0, any-every test ps (parts .1))
+any-every test ps e = every-at (λ n. test n ≡ false) ps (none-passes test (entriesOf ps) e)
 
 pub every-any : (test : ℕ → Bool) (ps : List Page) → Every (λ p. test (p .entry) ≡ false) ps → anyEntry test (entriesOf ps) ≡ false
-unfolding anyEntry entriesOf
-every-any test [] all = refl
-every-any test (p ∷ ps) all = rw (all .0) (every-any test ps (all .1))
+every-any test ps all = each-fails test (entriesOf ps) (at-every (λ n. test n ≡ false) ps all)
+
+apart-ascending : (ps : List Page) → Apart (entriesOf ps) → Ascending 0 (ascended ps)
+unfolding ascended entriesOf Ascending frameOf
+apart-ascending [] apart = tt
+apart-ascending (p ∷ ps) apart =
+    ascending-inserted p (inserted p (ascended ps)) 0 (omega arith)
+    (every-ascended (λ q. Other (p .entry) (q .entry)) ps
+    (every-at (Other (p .entry)) ps (λ j h e. let same : 0 ≡ suc j = apart 0 (suc j) (omega arith) (omega arith) e in omega arith)))
+    (apart-ascending ps (λ i j h k e. let same : suc i ≡ suc j = apart (suc i) (suc j) (omega arith) (omega arith) e in omega arith))
 
 pub ascended-ascending : (ps : List Page) → repeated (entriesOf ps) ≡ false → Ascending 0 (ascended ps)
-unfolding ascended repeated entriesOf Ascending
-ascended-ascending [] e = tt
-ascended-ascending (p ∷ ps) e =
-    let parts = neither (anyEntry (onPage (pageOf (p .entry))) (entriesOf ps)) (repeated (entriesOf ps)) e in
-    ascending-inserted p (inserted p (ascended ps)) 0 (omega arith)
-    (every-ascended (λ q. onPage (pageOf (p .entry)) (q .entry) ≡ false) ps (any-every (onPage (pageOf (p .entry))) ps (parts .0)))
-    (ascended-ascending ps (parts .1))
+ascended-ascending ps once = apart-ascending ps (once-apart (entriesOf ps) once)
 
 -- ---- what an ascending list has
 
@@ -133,16 +146,20 @@ ascending-every P least (p ∷ ps) each up =
     let low = up .0 in
     (each p low, ascending-every P (suc (frameOf (p .entry))) ps (λ q high. each q (omega arith)) (up .1))
 
-above-other : (a b : ℕ) → frameOf a < frameOf b → onPage (pageOf a) b ≡ false
-unfolding onPage pageOf frameOf
-above-other a b high = ne-eqb (b / 4096 * 4096) (a / 4096 * 4096) (λ e. omega arith)
+ascending-above : (p : Page) (ps : List Page) → Ascending (suc (frameOf (p .entry))) ps → (j : ℕ) → j < length (entriesOf ps)
+    → frameOf (p .entry) < frameOf (getD (entriesOf ps) j 0)
+ascending-above p ps up = at-every (λ n. frameOf (p .entry) < frameOf n) ps (ascending-every (λ q. frameOf (p .entry) < frameOf (q .entry)) (suc (frameOf (p .entry))) ps (λ q high. high) up)
+
+ascending-places : (least : ℕ) (ps : List Page) → Ascending least ps → Apart (entriesOf ps)
+unfolding Ascending entriesOf frameOf
+ascending-places least [] up i j h k e = absurd (omega arith)
+ascending-places least (p ∷ ps) up zero zero h k e = refl
+ascending-places least (p ∷ ps) up zero (suc j) h k e = let above = ascending-above p ps (up .1) j (omega arith) in absurd (omega arith)
+ascending-places least (p ∷ ps) up (suc i) zero h k e = let above = ascending-above p ps (up .1) i (omega arith) in absurd (omega arith)
+ascending-places least (p ∷ ps) up (suc i) (suc j) h k e = ap suc (ascending-places (suc (frameOf (p .entry))) ps (up .1) i j (omega arith) (omega arith) e)
 
 pub ascending-apart : (least : ℕ) (ps : List Page) → Ascending least ps → repeated (entriesOf ps) ≡ false
-unfolding Ascending repeated entriesOf
-ascending-apart least [] up = refl
-ascending-apart least (p ∷ ps) up =
-    let above = ascending-every (λ q. onPage (pageOf (p .entry)) (q .entry) ≡ false) (suc (frameOf (p .entry))) ps (λ q high. above-other (p .entry) (q .entry) high) (up .1) in
-    rw (every-any (onPage (pageOf (p .entry))) ps above) (ascending-apart (suc (frameOf (p .entry))) ps (up .1))
+ascending-apart least ps up = apart-once (entriesOf ps) (ascending-places least ps up)
 
 -- a list that is in order stays as it is
 pub ascending-same : (least : ℕ) (ps : List Page) → Ascending least ps → ascended ps ≡ ps

@@ -8,6 +8,7 @@ use lib.ListN.{length, take, drop, length-drop}
 use lib.Seq.{length-take-le}
 use lib.Dec.{eqb}
 use Rattle.pages.specs.Pages.{pageOf}
+use Rattle.pages.proofs.Laws.{page-end}
 use Rattle.sheet.specs.Digits.{Below}
 use Rattle.sheet.specs.Lines.{fieldCount, line, lines}
 use Rattle.sheet.specs.Sheets.{Page, Saved, Sheeted, WholePages, little, wordLine, wordLines, slots, pagesWords, pageLines, doLines, version, sheetLines, text}
@@ -45,8 +46,9 @@ only-words : (ps : List Page) → WholePages ps → LinesOnly (pagesWords ps)
 unfolding LinesOnly pagesWords WholePages
 only-words [] whole = tt
 only-words (p ∷ ps) whole =
-    let small = whole .0 .entry in
-    only-append (wordLines (pageOf (p .entry)) slots (p .bytes)) (pagesWords ps) (only-slots (pageOf (p .entry)) slots (p .bytes) (unfold pageOf in omega arith) (whole .0 .bytes)) (only-words ps (whole .1))
+    only-append (wordLines (pageOf (p .entry)) slots (p .bytes)) (pagesWords ps)
+    (only-slots (pageOf (p .entry)) slots (p .bytes) (page-end (p .entry) (whole .0 .entry)) (whole .0 .bytes))
+    (only-words ps (whole .1))
 
 only-pages : (ps : List Page) (ls : List (List ℕ)) → WholePages ps → LinesOnly ls → LinesOnly (pageLines ps ++ ls)
 unfolding pageLines WholePages

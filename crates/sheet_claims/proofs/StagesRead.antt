@@ -90,4 +90,5 @@ module _ (s : Saved) (h : Sheeted s) where
       let counted = pages-counted 0 (s .pages) (pagesWords (s .pages) ++ dos) (h .ascending) (h .pages) behind-pages in
       let words = pages-read 0 (s .pages) dos (h .ascending) (h .pages) behind-words in
       let instructions = do-read count (s .words) four-each (h .words) in
-      rw (counted, take-append-seam (pageLines (s .pages)), drop-append-seam (pageLines (s .pages)), entries-read (s .pages) (h .pages), words .0, words .1, instructions .0, take-length dos, drop-length dos, instructions .1)
+      rw (counted, take-append-seam (pageLines (s .pages)), drop-append-seam (pageLines (s .pages)), entries-read (s .pages) (h .pages))
+      (rw (words .0, words .1, instructions .0, take-length dos, drop-length dos, instructions .1))

@@ -8,6 +8,7 @@ use lib.ListN.{length, drop, take-append-drop, length-drop}
 use lib.Dec.{eqb}
 use borrow.Author.Tests.{eqb-true, eqb-false}
 use Rattle.pages.specs.Pages.{pageOf}
+use Rattle.pages.proofs.Laws.{page-and-offset, page-end}
 use Rattle.sheet.specs.Digits.{Below}
 use Rattle.sheet.specs.Lines.{line}
 use Rattle.sheet.specs.Sheets.{Page, frameOf, Ascending, WholePages, little, wordLine, wordLines, slots, pagesWords, entriesOf}
@@ -37,11 +38,12 @@ next-of-slots P address (suc n) bytes rest small each last =
 
 pub next-of-pages : (P : List ℕ → Type 0) (least : ℕ) (ps : List Page) (rest : List (List ℕ)) → Ascending least ps → WholePages ps
     → ((a v : ℕ) → 4096 * least ≤ a → a < 2 ^ 64 → v < 2 ^ 64 → P (line Word (a ∷ v ∷ []))) → P (next rest) → P (next (pagesWords ps ++ rest))
-unfolding pagesWords Ascending WholePages pageOf frameOf
+unfolding pagesWords Ascending WholePages frameOf
 next-of-pages P least [] rest up whole each last = last
 next-of-pages P least (p ∷ ps) rest up whole each last =
     let low : least ≤ p .entry / 4096 = up .0 in
-    let small = whole .0 .entry in
+    let first = page-and-offset (p .entry) in
+    let end = page-end (p .entry) (whole .0 .entry) in
     rw append-assoc
     (next-of-slots P (pageOf (p .entry)) slots (p .bytes) (pagesWords ps ++ rest) (whole .0 .bytes) (λ a v near far. each a v (omega arith) (omega arith))
     (next-of-pages P (suc (frameOf (p .entry))) ps rest (up .1) (whole .1) (λ a v near. each a v (omega arith)) last))
@@ -86,11 +88,10 @@ unfolding pagesWords Ascending WholePages pagesIn pastPages entriesOf
 pages-read least [] rest up whole other = (refl, refl)
 pages-read least (p ∷ ps) rest up whole other =
     let more : List (List ℕ) = pagesWords ps ++ rest in
-    let small = whole .0 .entry in
-    let fits : pageOf (p .entry) + 4096 ≤ 2 ^ 64 = unfold pageOf in omega arith in
+    let first = page-and-offset (p .entry) in
     let behind : Behind (pageOf (p .entry) + 8 * slots) more
     = λ a near. next-of-pages (λ l. isWord a l ≡ false) (suc (frameOf (p .entry))) ps rest (up .1) (whole .1)
-    (λ b v far b-fits v-fits. other-word b v b-fits v-fits a (unfold pageOf frameOf in omega arith)) (other a) in
-    let here = slots-read (pageOf (p .entry)) slots (p .bytes) more fits (whole .0 .long) (whole .0 .bytes) behind in
+    (λ b v far b-fits v-fits. other-word b v b-fits v-fits a (unfold frameOf in omega arith)) (other a) in
+    let here = slots-read (pageOf (p .entry)) slots (p .bytes) more (page-end (p .entry) (whole .0 .entry)) (whole .0 .long) (whole .0 .bytes) behind in
     let after = pages-read (suc (frameOf (p .entry))) ps rest (up .1) (whole .1) other in
     (rw (append-assoc, here .0, here .1, after .0), rw append-assoc (ap (pastPages (entriesOf ps)) (here .1) ∙ after .1))

@@ -58,7 +58,9 @@ slots-small : (address n : ℕ) (ls : List (List ℕ)) → Below 256 (slotBytes 
 unfolding slotBytes
 slots-small address zero ls = below-none 256 (omega arith)
 slots-small address (suc n) ls =
-    below-append 256 (littleBytes 8 (slotValue address ls)) (slotBytes (address + 8) n (pastSlot address ls)) (below-little-bytes 8 (slotValue address ls)) (slots-small (address + 8) n (pastSlot address ls))
+    below-append 256 (littleBytes 8 (slotValue address ls)) (slotBytes (address + 8) n (pastSlot address ls))
+    (below-little-bytes 8 (slotValue address ls))
+    (slots-small (address + 8) n (pastSlot address ls))
 
 slots-taken : (address n : ℕ) (ls : List (List ℕ)) → wordLines address n (slotBytes address n ls) ++ pastSlots address n ls ≡ ls
 unfolding wordLines slotBytes pastSlots
@@ -66,7 +68,8 @@ slots-taken address zero ls = refl
 slots-taken address (suc n) ls =
     let v : ℕ = slotValue address ls in
     let more : List ℕ = slotBytes (address + 8) n (pastSlot address ls) in
-    rw (little-of-bytes 8 v more (slot-small address ls), drop-at (littleBytes 8 v) more 8 (length-little-bytes 8 v), append-assoc, slots-taken (address + 8) n (pastSlot address ls)) (slot-taken address ls)
+    rw (little-of-bytes 8 v more (slot-small address ls), drop-at (littleBytes 8 v) more 8 (length-little-bytes 8 v))
+    (rw (append-assoc, slots-taken (address + 8) n (pastSlot address ls)) (slot-taken address ls))
 
 pub words-taken : (entries : List ℕ) (ls : List (List ℕ)) → pagesWords (pagesIn entries ls) ++ pastPages entries ls ≡ ls
 unfolding pagesWords pagesIn pastPages

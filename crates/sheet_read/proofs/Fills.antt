@@ -84,7 +84,8 @@ little-suc : (n v : ℕ) → littleBytes (suc n) v ≡ v % 256 ∷ littleBytes n
 unfolding littleBytes
 little-suc n v = refl
 
-pub byte-turn : (out : List ℕ) (at i v : ℕ) → i < 8 → at + i < length out → laid out (at + i) (littleBytes (8 - i) v) ≡ laid (set out (at + i) (v % 256)) (at + (i + 1)) (littleBytes (8 - (i + 1)) (v / 256))
+pub byte-turn : (out : List ℕ) (at i v : ℕ) → i < 8 → at + i < length out
+    → laid out (at + i) (littleBytes (8 - i) v) ≡ laid (set out (at + i) (v % 256)) (at + (i + 1)) (littleBytes (8 - (i + 1)) (v / 256))
 byte-turn out at i v more room =
     let one : 8 - i ≡ suc (8 - (i + 1)) = omega arith in
     let next : at + i + 1 ≡ at + (i + 1) = omega arith in

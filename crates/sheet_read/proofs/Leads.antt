@@ -101,7 +101,8 @@ module _ (kind : Line) where
   unfolding numbers
   numbers-suc n u begun = rw (lines-step kind u begun)
 
-  pub numbers-turn : (n : ℕ) (u : List ℕ) → 0 < n → Lead kind n (lines u) → numbers kind (take n (lines u)) ≡ values kind (take (width kind) u) ++ numbers kind (take (n - 1) (lines (drop (width kind) u)))
+  pub numbers-turn : (n : ℕ) (u : List ℕ) → 0 < n → Lead kind n (lines u)
+      → numbers kind (take n (lines u)) ≡ values kind (take (width kind) u) ++ numbers kind (take (n - 1) (lines (drop (width kind) u)))
   numbers-turn n u more h =
       ap (λ (k : ℕ). numbers kind (take k (lines u))) (one-less n more) ∙ numbers-suc (n - 1) u (led kind n u more h .front)
 

@@ -22,7 +22,8 @@ one-value : (l : List ℕ) → values Page l ≡ value Page 0 l ∷ []
 unfolding values valuesIn
 one-value l = refl
 
-pub entries-turn : (left : ℕ) (t : List ℕ) (at : ℕ) → 0 < left → Lead Page left (lines (drop at t)) → entriesIn left (drop at t) ≡ valueOf (take digits (drop (at + 6) t)) ∷ entriesIn (left - 1) (drop (at + 23) t)
+pub entries-turn : (left : ℕ) (t : List ℕ) (at : ℕ) → 0 < left → Lead Page left (lines (drop at t))
+    → entriesIn left (drop at t) ≡ valueOf (take digits (drop (at + 6) t)) ∷ entriesIn (left - 1) (drop (at + 23) t)
 unfolding entriesIn
 entries-turn left t at more h =
     rw (
@@ -49,7 +50,8 @@ module _ (t : List ℕ) (at entry n : ℕ) (count-is : n ≡ slotCount (pageOf e
   unfolding wordCount
   words-turn entries = rw (page-rest, count-is)
 
-  pub pages-turn : (entries : List ℕ) → bytesOf (pagesIn (entry ∷ entries) (lines (drop at t))) ≡ slotBytes (pageOf entry) slots (lines (drop at t)) ++ bytesOf (pagesIn entries (lines (drop (at + 41 * n) t)))
+  pub pages-turn : (entries : List ℕ)
+      → bytesOf (pagesIn (entry ∷ entries) (lines (drop at t))) ≡ slotBytes (pageOf entry) slots (lines (drop at t)) ++ bytesOf (pagesIn entries (lines (drop (at + 41 * n) t)))
   unfolding pagesIn bytesOf
   pages-turn entries = rw page-rest
 

@@ -71,7 +71,8 @@ module _ (t : List ℕ) (shape : Shape) (s : Shaped t shape) where
   unfolding savedAt
   words-long = numbers-length Do (shape .steps) (drop (stepsAt (shape .pages) (shape .words)) t) (s .steps)
 
-  pub tested-is : tested (savedAt t shape) ≡ check (entriesIn (shape .pages) (drop bodyAt t)) (pageBytes * shape .pages) (inRange (stateOf (numbers State (take 1 (lines (drop stateAt t)))))) (4 * shape .steps)
+  pub tested-is : tested (savedAt t shape)
+      ≡ check (entriesIn (shape .pages) (drop bodyAt t)) (pageBytes * shape .pages) (inRange (stateOf (numbers State (take 1 (lines (drop stateAt t)))))) (4 * shape .steps)
   unfolding tested savedAt
   tested-is = rw (entries-are, bytes-long, words-long)
 

@@ -70,7 +70,9 @@ module _ (t : List ℕ) (at least entry : ℕ) (begun : begins (form Page) (drop
 pub lead-pages : (least : ℕ) (ls : List (List ℕ)) → Lead Page (pageCount least ls) ls
 unfolding pageCount Lead
 lead-pages least [] = tt
-lead-pages least (l ∷ ls) = lead-if Page l ls (pageCount (suc (frameOf (value Page 0 l))) ls) (isLine Page l) refl (leb least (frameOf (value Page 0 l))) (lead-pages (suc (frameOf (value Page 0 l))) ls)
+lead-pages least (l ∷ ls) =
+    let next : ℕ = suc (frameOf (value Page 0 l)) in
+    lead-if Page l ls (pageCount next ls) (isLine Page l) refl (leb least (frameOf (value Page 0 l))) (lead-pages next ls)
 
 -- ---- instructions
 
@@ -172,7 +174,8 @@ pub lead-slots : (address n : ℕ) (ls : List (List ℕ)) → Lead Word (slotCou
 unfolding slotCount
 lead-slots address zero ls = lead-none Word ls
 lead-slots address (suc n) ls =
-    lead-more Word (lineCount (slotValue address ls)) (slotCount (address + 8) n (pastSlot address ls)) ls (lead-slot address ls) (rw (← slot-past address ls) (lead-slots (address + 8) n (pastSlot address ls)))
+    lead-more Word (lineCount (slotValue address ls)) (slotCount (address + 8) n (pastSlot address ls)) ls (lead-slot address ls)
+    (rw (← slot-past address ls) (lead-slots (address + 8) n (pastSlot address ls)))
 
 pub words-past : (entries : List ℕ) (ls : List (List ℕ)) → pastPages entries ls ≡ drop (wordCount entries ls) ls
 unfolding pastPages wordCount
@@ -218,7 +221,8 @@ module _ (t : List ℕ) (at base slot v k : ℕ) (value-is : v ≡ slotValue (ba
   pub count-turn : slot < slots → slotCount (base + 8 * slot) (slots - slot) (lines (drop at t)) ≡ k + slotCount (base + 8 * (slot + 1)) (slots - (slot + 1)) (lines (drop (at + 41 * k) t))
   count-turn more = rw (one-less slot more, count-suc, next-slot, slot-rest, lines-are)
 
-  pub bytes-turn : slot < slots → slotBytes (base + 8 * slot) (slots - slot) (lines (drop at t)) ≡ littleBytes 8 v ++ slotBytes (base + 8 * (slot + 1)) (slots - (slot + 1)) (lines (drop (at + 41 * k) t))
+  pub bytes-turn : slot < slots
+      → slotBytes (base + 8 * slot) (slots - slot) (lines (drop at t)) ≡ littleBytes 8 v ++ slotBytes (base + 8 * (slot + 1)) (slots - (slot + 1)) (lines (drop (at + 41 * k) t))
   bytes-turn more = rw (one-less slot more, bytes-suc, next-slot, slot-rest, value-is)
 
 -- all values

@@ -72,7 +72,8 @@ module _ (out : List ℕ) (at : ℕ) (whole now : List ℕ) (place : ℕ) (rest 
 -- ---- one line
 
 -- a line with its own count of numbers, where there is room
-pub lay-line : (kind : Line) (values out : List ℕ) (at : ℕ) (after : List ℕ) (wide : ℕ) → length values ≡ fieldCount kind → at + width kind ≤ length out → after ≡ laidIf out at (line kind values) → wide ≡ width kind
+pub lay-line : (kind : Line) (values out : List ℕ) (at : ℕ) (after : List ℕ) (wide : ℕ)
+    → length values ≡ fieldCount kind → at + width kind ≤ length out → after ≡ laidIf out at (line kind values) → wide ≡ width kind
     → Laying out at (line kind values) after (at + wide)
 lay-line kind values out at after wide whole room after-is wide-is =
     let long = line-length kind values whole in
@@ -100,5 +101,6 @@ module _ (address value : ℕ) where
   pub word-room : (at n : ℕ) → (value ≡ 0 → ⊥) → at + length (joined (wordLine address value)) ≤ n → at + 41 ≤ n
   word-room at n e room = let long = ap length (word-one e) ∙ line-length Word (address ∷ value ∷ []) refl in omega arith
 
-  pub lay-value : (out : List ℕ) (at : ℕ) (after : List ℕ) (next : ℕ) → (value ≡ 0 → ⊥) → Laying out at (line Word (address ∷ value ∷ [])) after next → Laying out at (joined (wordLine address value)) after next
+  pub lay-value : (out : List ℕ) (at : ℕ) (after : List ℕ) (next : ℕ) → (value ≡ 0 → ⊥)
+      → Laying out at (line Word (address ∷ value ∷ [])) after next → Laying out at (joined (wordLine address value)) after next
   lay-value out at after next e laying = rw (word-one e) laying

@@ -6,6 +6,7 @@ use mathlib.Core.Logic.{⊎-elim}
 use native.Mathlib.Omega.{arith}
 use lib.ListN.{length, getD, take, drop}
 use Rattle.pages.specs.Pages.{pageBytes, pageOf}
+use Rattle.pages.proofs.Laws.{page-and-offset}
 use Rattle.sheet.specs.Lines.{line, joined}
 use Rattle.sheet.specs.Sheets.{Page, frameOf, little, wordLine, wordLines, slots, doLines}
 use Rattle.sheet.specs.declared.line.Line.the-variants.{Page as PageLine, Do}
@@ -88,7 +89,10 @@ module _ (entries bytes : List ℕ) (least place : ℕ) (nearest : Nearest entri
     next-page : from least (inOrder entries bytes) ≡ pageIn entries bytes place ∷ from (frameOf (getD entries place 0) + 1) (inOrder entries bytes)
     next-page =
         next-left entries bytes least place h (nearest .own h)
-        (λ i inside other at. let behind = nearest .first i inside at .1 in let apart : frameOf (getD entries i 0) ≡ frameOf (getD entries place 0) → ⊥ = λ e. other (lent .apart i place inside h e) in omega arith)
+        (λ i inside other at.
+        let behind = nearest .first i inside at .1 in
+        let apart : frameOf (getD entries i 0) ≡ frameOf (getD entries place 0) → ⊥ = λ e. other (lent .apart i place inside h e) in
+        omega arith)
 
     module _ (frame : ℕ) (frame-is : frame ≡ frameOf (getD entries place 0)) where
       -- the page as the code lends it
@@ -96,7 +100,9 @@ module _ (entries bytes : List ℕ) (least place : ℕ) (nearest : Nearest entri
           → Begins (pagesFrom pass entries bytes least)
           (joined (linesOf pass (record { entry = getD entries place 0; bytes = take (pageBytes * place + pageBytes - pageBytes * place) (drop (pageBytes * place) bytes) })))
           (pagesFrom pass entries bytes (frame + 1))
-      pages-turn pass = rw (frame-is, part (pageBytes * place) pageBytes bytes, next-page) (pages-cons pass (pageIn entries bytes place) (from (frameOf (getD entries place 0) + 1) (inOrder entries bytes)))
+      pages-turn pass =
+          rw (frame-is, part (pageBytes * place) pageBytes bytes, next-page)
+          (pages-cons pass (pageIn entries bytes place) (from (frameOf (getD entries place 0) + 1) (inOrder entries bytes)))
 
       pub pages-less : length (from (frame + 1) (inOrder entries bytes)) < length (from least (inOrder entries bytes))
       pages-less = rw frame-is (let one = ap length next-page in omega arith)
@@ -118,8 +124,10 @@ entry-text pass entry page e = rw e (joined-one (line PageLine (entry ∷ [])))
 -- its values, by the number of the page
 pub values-text : (pass : Pass) (entry : ℕ) (page : List ℕ) (frame : ℕ) → pass ≡ Values → frame ≡ frameOf entry
     → joined (linesOf pass (record { entry = entry; bytes = page })) ≡ joined (wordLines (frame * pageBytes) slots page)
-unfolding pageOf frameOf
-values-text pass entry page frame e frame-is = rw (e, frame-is)
+unfolding frameOf
+values-text pass entry page frame e frame-is =
+    let first : pageOf entry ≡ frame * pageBytes = omega (arith, page-and-offset entry) in
+    rw (e, first)
 
 -- a page ends at 2^64 or before
 pub page-below : (entry frame : ℕ) → entry < 2 ^ 64 → frame ≡ frameOf entry → frame * pageBytes + pageBytes ≤ 2 ^ 64

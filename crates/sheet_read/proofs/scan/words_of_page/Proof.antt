@@ -5,7 +5,7 @@ use mathlib.Core.List.{List}
 use native.Mathlib.Omega.{arith}
 use lib.ListN.{length, drop}
 use borrow.Author.Needs.{needs}
-use Rattle.pages.specs.Pages.{pageOf}
+use Rattle.pages.proofs.Laws.{page-end}
 use Rattle.sheet.specs.Lines.{lines}
 use Rattle.sheet.specs.Sheets.{slots}
 use Rattle.sheet_read.specs.Scan.{slotCount}
@@ -35,8 +35,10 @@ mul-slot-value : tie.Need-mul-slot-value Inv-loop μ-loop
 mul-slot-value c = omega arith
 
 add-slot-value : tie.Need-add-slot-value Inv-loop μ-loop
-unfolding pageOf
-add-slot-value c = let base-is = c .before .before .page-of .ensures in omega arith
+add-slot-value c =
+    let base-is = c .before .before .page-of .ensures in
+    let end = page-end _ (c .before .before .before .before .fits .entry .fits) in
+    omega arith
 
 slot-value-requires : tie.Need-slot-value-requires Inv-loop μ-loop
 slot-value-requires c κs = search needs

@@ -1,24 +1,23 @@
--- Sums of pointers: how far they go, and their remainders. Assumes nothing.
-use Prim.Native.Nat.{ℕ, _+_, _*_, _%_, _^_, _<_}
+-- Sums of addresses: how far they go, their remainders, and what an address has moved by. Assumes nothing.
+use Prim.Native.Nat.{ℕ, _+_, _%_, _<_}
 use mathlib.Core.Path.{_≡_, sym, _∙_, ap}
 use native.Mathlib.Nat.{mod-add-mod}
 use native.Mathlib.Omega.{arith}
-use Rattle.memory.specs.Access.{byteCount}
 use Rattle.pages.specs.Address.{modulus, wrapped, plus, minus}
-use Rattle.memory.specs.declared.access.Size.{Size}
-use Rattle.memory.specs.declared.access.Size.the-variants.{Four, Eight}
 use Rattle.pages.specs.declared.address.Width.{Width}
 use Rattle.pages.specs.declared.address.Width.the-variants.{Bits32, Bits64}
 
--- ---- below 2^32, at the width of 32 bits
+-- ---- within the width
 
-pub plus-below : (a b : ℕ) → plus Bits32 a b < 2 ^ 32
+pub plus-below : (w : Width) (a b : ℕ) → plus w a b < modulus w
 unfolding plus
-plus-below a b = omega arith
+plus-below Bits32 a b = omega arith
+plus-below Bits64 a b = omega arith
 
-pub minus-below : (a b : ℕ) → minus Bits32 a b < 2 ^ 32
+pub minus-below : (w : Width) (a b : ℕ) → minus w a b < modulus w
 unfolding minus
-minus-below a b = omega arith
+minus-below Bits32 a b = omega arith
+minus-below Bits64 a b = omega arith
 
 -- ---- multiples of 4
 
@@ -32,11 +31,7 @@ unfolding minus
 minus-aligned Bits32 a b ha hb = omega arith
 minus-aligned Bits64 a b ha hb = omega arith
 
-pub bytes-aligned : (size : Size) (n : ℕ) → byteCount size * n % 4 ≡ 0
-bytes-aligned Four n = omega arith
-bytes-aligned Eight n = omega arith
-
--- ---- what a pointer has moved by
+-- ---- what an address has moved by: the old one and what it moved up by, the new one and what it moved down by
 
 -- up
 pub plus-back : (w : Width) (a k : ℕ) → wrapped w (a + k) ≡ wrapped w (plus w a k + 0)
@@ -62,7 +57,8 @@ unfolding wrapped
 add-same w a b k e = sym (mod-add-mod a (modulus w) k) ∙ ap (λ (x : ℕ). (x + k) % modulus w) e ∙ mod-add-mod b (modulus w) k
 
 -- two moves, one after the other: from a to b, then from b to c
-pub moves-add : (w : Width) (a b c up₁ down₁ up₂ down₂ : ℕ) → wrapped w (a + up₁) ≡ wrapped w (b + down₁) → wrapped w (b + up₂) ≡ wrapped w (c + down₂)
+pub moves-add : (w : Width) (a b c up₁ down₁ up₂ down₂ : ℕ)
+    → wrapped w (a + up₁) ≡ wrapped w (b + down₁) → wrapped w (b + up₂) ≡ wrapped w (c + down₂)
     → wrapped w (a + (up₁ + up₂)) ≡ wrapped w (c + (down₁ + down₂))
 moves-add w a b c up₁ down₁ up₂ down₂ first second =
     ap (wrapped w) (omega arith)
