@@ -10,7 +10,7 @@ use Rattle.answers.specs.declared.answer.Answer.the-variants.{Completed, Refuse
 use Rattle.answers.specs.declared.answer.Report.{Report}
 use Rattle.processor.specs.declared.state.State.{State}
 use Rattle.processor.specs.Layout.{fields, stateOf, wordsOf}
-use Rattle.replay.specs.Run.{Run, inputOf, tested, replayed}
+use Rattle.replay.specs.Run.{Run, inputOf, checkBy, replayed}
 use Rattle.replay.specs.declared.steps.Tested.{Tested}
 use Rattle.replay.specs.declared.steps.Tested.the-variants.{Passed, Failed}
 
@@ -49,7 +49,7 @@ answered state bytes report count answer = record { number = numberOf answer; st
 abbrev pub ran : List ℕ → Run → Crossing
 ran report r = answered (wordsOf (r .state)) (r .bytes) report (r .count) (r .answer)
 
--- what is tested before any step, as an answer
+-- what is checkBy before any step, as an answer
 abbrev pub testedAs : Tested → Answer
 testedAs Passed = Completed
 testedAs (Failed refusal) = Refused refusal
@@ -61,4 +61,4 @@ crossed state pages bytes words report =
     cond (ltb (length report) reportLength) (record { number = 8; state = state; bytes = bytes; report = report })
     (cond (eqb (length state) fields)
     (ran report (replayed (inputOf (stateOf state) pages bytes words)))
-    (answered state bytes report 0 (testedAs (tested pages (length bytes) false (length words)))))
+    (answered state bytes report 0 (testedAs (checkBy pages (length bytes) false (length words)))))

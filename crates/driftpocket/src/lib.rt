@@ -7,7 +7,7 @@ ghost use lib.ListN.{length};
 ghost use Rattle.driftpocket.specs.Crossing.{reportWords, over, numberOf as numberFor, testedAs, answered, crossed};
 ghost use Rattle.processor.specs.Layout.{fields, wordsOf};
 ghost use Rattle.answers.specs.Answer.{reportOf};
-ghost use Rattle.replay.specs.Run.{tested};
+ghost use Rattle.replay.specs.Run.{checkBy};
 use processor::Answer;
 use processor::FIELDS;
 use processor::State;
@@ -70,7 +70,7 @@ fn number(answer: Answer) -> u64
 
 // The answer to an input whose state has another length.
 fn no_state(pages: &[u64], lent: usize, words: usize) -> Answer
-    ensures { λ r. ⌜ r ≡ testedAs (tested (now (pages .entry)) lent false words) ⌝ }
+    ensures { λ r. ⌜ r ≡ testedAs (checkBy (now (pages .entry)) lent false words) ⌝ }
 {
     match replay::check(pages, lent, false, words) {
         Tested::Passed => Answer::Completed,

@@ -11,4 +11,5 @@ pub mod State
 pub mod Accesses
 pub mod Outcomes
 pub mod Prog
+pub mod Bits
 pub mod Popped

@@ -1,4 +1,4 @@
--- Whole runs: what is tested before any step, the steps, and where they end (docs/RULES.md, "Refusals and answers"). Assumes nothing.
+-- Whole runs: what is checkBy before any step, the steps, and where they end (docs/RULES.md, "Refusals and answers"). Assumes nothing.
 use Prim.Native.Nat.{ℕ, zero, suc, _*_, _/_, _%_}
 use mathlib.Core.Bool.{Bool, not, cond, _||_}
 use mathlib.Core.List.{List}
@@ -53,7 +53,7 @@ withState given s = record { state = s; pages = given .pages; bytes = given .byt
 abbrev pub withPages : Input → List ℕ → List ℕ → Input
 withPages given pages bytes = record { state = given .state; pages = pages; bytes = bytes; words = given .words }
 
--- ---- what is tested before any step
+-- ---- what is checkBy before any step
 
 -- the most instructions
 abbrev pub instructionLimit : ℕ
@@ -63,7 +63,7 @@ instructionLimit = 1024
 unfoldable pub badWords : ℕ → Bool
 badWords words = not (eqb (words % 4) 0) || ltb instructionLimit (words / 4)
 
--- refusals 1 to 4 of the page list, then what is tested after them
+-- refusals 1 to 4 of the page list, then what is checkBy after them
 abbrev pub afterPages : Listing → Tested → Tested
 afterPages Valid rest = rest
 afterPages BadLength rest = Failed Length
@@ -73,11 +73,11 @@ afterPages Repeated rest = Failed Repeat
 
 -- Refusals 1, 2, 3, 4, 5 and 7, in this order, each over the whole input: `good` is whether the state is in range, `lent` and `words`
 -- are how many bytes and words there are.
-unfoldable pub tested : List ℕ → ℕ → Bool → ℕ → Tested
-tested pages lent good words = afterPages (listing pages lent) (cond good (cond (badWords words) (Failed Words) Passed) (Failed BadState))
+unfoldable pub checkBy : List ℕ → ℕ → Bool → ℕ → Tested
+checkBy pages lent good words = afterPages (listing pages lent) (cond good (cond (badWords words) (Failed Words) Passed) (Failed BadState))
 
 unfoldable pub check : Input → Tested
-check given = tested (given .pages) (length (given .bytes)) (inRange (given .state)) (length (given .words))
+check given = checkBy (given .pages) (length (given .bytes)) (inRange (given .state)) (length (given .words))
 
 -- ---- one step
 

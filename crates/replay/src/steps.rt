@@ -2,7 +2,7 @@
 ghost use mathlib.Core.Path.{_≡_};
 ghost use Rattle.processor.specs.Outcomes.{stepOf};
 ghost use Rattle.instructions.specs.Instruction.{alone};
-ghost use Rattle.replay.specs.Run.{inputOf, badWords, tested as testedOf, stepped};
+ghost use Rattle.replay.specs.Run.{inputOf, badWords, checkBy, stepped};
 use instructions::Instruction;
 use memory::Listing;
 use perform::perform;
@@ -32,7 +32,7 @@ fn bad_words(words: usize) -> bool
 // Refusals 1, 2, 3, 4, 5 and 7, in this order: `good` is whether the state is in range, `lent` and `words` are how many bytes and
 // words there are.
 pub fn check(pages: &[u64], lent: usize, good: bool, words: usize) -> Tested
-    ensures { λ r. ⌜ r ≡ testedOf (now (pages .entry)) lent good words ⌝ }
+    ensures { λ r. ⌜ r ≡ checkBy (now (pages .entry)) lent good words ⌝ }
 {
     match Listing::of(pages, lent) {
         Listing::BadLength => Tested::Failed(Refusal::Length),

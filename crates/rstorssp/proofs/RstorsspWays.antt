@@ -20,7 +20,7 @@ use Rattle.processor.specs.Outcomes.{completed, faulted, stepOf}
 use Rattle.processor.specs.Prog.{interp, operate}
 use Rattle.processor.specs.declared.state.State.{State}
 use Rattle.processor.proofs.Laws.{passed, halted, loaded, not-loaded, stored, completes, faults}
-use Rattle.bits.specs.Bits.{bit}
+use Rattle.processor.specs.Bits.{bit}
 use Rattle.rstorssp.specs.Rstorssp.{goodToken, restoredFlags, rstorssp}
 
 module _ (look : Lookup) (bytes : List ℕ) (a span : ℕ) (s : State) where

@@ -11,7 +11,7 @@ use Rattle.processor.specs.Layout.{withIp, withSsp, withFlags}
 use Rattle.processor.specs.Accesses.{shadow}
 use Rattle.processor.specs.Prog.{Prog, done, _>>=_, _>>_, load, store, unless}
 use Rattle.processor.specs.declared.state.State.{State}
-use Rattle.bits.specs.Bits.{bit, clear, multiple}
+use Rattle.processor.specs.Bits.{bit, clear, multiple}
 
 -- where a restore token must stand: bit 0 cleared, less 8 modulo 2^64 in either mode, rounded down to a multiple of 8
 unfoldable pub home : ℕ → ℕ

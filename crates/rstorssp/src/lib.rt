@@ -3,7 +3,7 @@ ghost use mathlib.Core.Path.{_≡_};
 ghost use Rattle.memory.specs.Access.{lookupOf};
 ghost use Rattle.processor.specs.Prog.{operate};
 ghost use Rattle.processor.specs.Outcomes.{stepOf};
-ghost use Rattle.bits.specs.Bits.{bit};
+ghost use Rattle.processor.specs.Bits.{bit};
 ghost use Rattle.rstorssp.specs.Rstorssp.{home as homeOf, goodToken, restoredFlags, rstorssp as rstorsspOf};
 use memory::Loaded;
 use memory::Size;

@@ -25,7 +25,7 @@ use Rattle.processor.specs.Prog.{done, _>>=_, _>>_, ended, broken, interp, sett
 use Rattle.answers.specs.declared.answer.Fault.{Fault}
 use Rattle.processor.specs.declared.state.State.{State}
 use Rattle.processor.proofs.Laws.{passed, halted, loaded, not-loaded, putAll, all-stored, none-stored, continues, breaks, completes, faults}
-use Rattle.bits.specs.Bits.{multiple}
+use Rattle.processor.specs.Bits.{multiple}
 use Rattle.saveprevssp.specs.Saveprevssp.{carry, popHole, newTop, savedToken, leaveToken, saveprevssp}
 
 -- ---- the hole

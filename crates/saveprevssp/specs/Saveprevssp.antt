@@ -9,7 +9,7 @@ use Rattle.processor.specs.Layout.{withIp, withSsp}
 use Rattle.processor.specs.Accesses.{shadow}
 use Rattle.processor.specs.Prog.{Prog, done, _>>=_, _>>_, load, store, unless}
 use Rattle.processor.specs.declared.state.State.{State}
-use Rattle.bits.specs.Bits.{bit, multiple}
+use Rattle.processor.specs.Bits.{bit, multiple}
 
 -- CF, bit 0 of RFLAGS
 abbrev pub carry : State → Bool

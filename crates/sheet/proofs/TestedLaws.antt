@@ -13,7 +13,7 @@ use Rattle.pages.specs.declared.pages.Listing.the-variants.{Valid, BadLength, B
 use Rattle.pages.proofs.Laws.{ValidList, valid-list, list-valid, too-many-entries}
 use Rattle.answers.specs.declared.answer.Refusal.{Refusal}
 use Rattle.answers.specs.declared.answer.Refusal.the-variants.{Length}
-use Rattle.replay.specs.Run.{instructionLimit, badWords, afterPages, check}
+use Rattle.replay.specs.Run.{instructionLimit, badWords, afterPages, checkBy}
 use Rattle.replay.specs.declared.steps.Tested.{Tested}
 use Rattle.replay.specs.declared.steps.Tested.the-variants.{Passed, Failed}
 
@@ -37,8 +37,8 @@ after-state true false true first second e = let z : _≡_ {A = ℕ} 0 1 = cc in
 after-state true false false first second e = (refl, refl, refl)
 after-state false uneven many first second e = let z : _≡_ {A = ℕ} 0 1 = cc in absurd (omega arith)
 
-pub passes : (entries : List ℕ) (lent : ℕ) (good : Bool) (words : ℕ) → check entries lent good words ≡ Passed → Passes entries lent good words
-unfolding check badWords
+pub passes : (entries : List ℕ) (lent : ℕ) (good : Bool) (words : ℕ) → checkBy entries lent good words ≡ Passed → Passes entries lent good words
+unfolding checkBy badWords
 passes entries lent good words e =
     let parts = after-pages (listing entries lent) _ e in
     let rest = after-state good (not (eqb (words % 4) 0)) (ltb instructionLimit (words / 4)) _ _ (parts .1) in
@@ -49,12 +49,12 @@ passes entries lent good words e =
       few = ltb-false instructionLimit (words / 4) (rest .2);
     }
 
-pub passed : (entries : List ℕ) (lent : ℕ) (good : Bool) (words : ℕ) → Passes entries lent good words → check entries lent good words ≡ Passed
-unfolding check badWords
+pub passed : (entries : List ℕ) (lent : ℕ) (good : Bool) (words : ℕ) → Passes entries lent good words → checkBy entries lent good words ≡ Passed
+unfolding checkBy badWords
 passed entries lent good words h =
     rw (list-valid entries lent (h .list), h .state, eq-eqb (words % 4) 0 (h .whole), le-ltb instructionLimit (words / 4) (h .few))
 
 -- refusal 1 comes before all else
-pub too-many : (entries : List ℕ) (lent : ℕ) (good : Bool) (words : ℕ) → pageLimit < length entries → check entries lent good words ≡ Failed Length
-unfolding check
+pub too-many : (entries : List ℕ) (lent : ℕ) (good : Bool) (words : ℕ) → pageLimit < length entries → checkBy entries lent good words ≡ Failed Length
+unfolding checkBy
 too-many entries lent good words more = rw (too-many-entries entries lent more)

@@ -7,7 +7,7 @@ use native.Mathlib.Omega.{arith}
 use Rattle.memory.specs.Extends.{HoldsPages}
 use Rattle.sheet.specs.Sheets.{Page, frameOf, Ascending, pagesOf, ascended, savedOf, text}
 use Rattle.sheet_claims.specs.EqualMeaning.{EqualText, EqualWrites}
-use Rattle.replay.specs.Run.{check}
+use Rattle.replay.specs.Run.{checkBy}
 use Rattle.sheet_write.specs.Writes.{writes}
 use Rattle.sheet_claims.proofs.LentPages.{lent-held, lent-ascending}
 use Rattle.sheet_claims.proofs.Ordered.{Every, every-map, every-mem, every-ascended, mem-ascended, ascending-every}
@@ -68,6 +68,6 @@ equal-text state words pages₁ bytes₁ pages₂ bytes₂ valid₁ valid₂ the
     (held-ascended pages₁ bytes₁ pages₂ bytes₂ there) (held-ascended pages₂ bytes₂ pages₁ bytes₁ back))
 
 pub equal-writes : EqualWrites
-unfolding writes check
+unfolding writes checkBy
 equal-writes state words pages₁ bytes₁ pages₂ bytes₂ out valid₁ valid₂ there back =
     rw (valid₁, valid₂, equal-text state words pages₁ bytes₁ pages₂ bytes₂ valid₁ valid₂ there back)

@@ -12,7 +12,7 @@ use borrow.Author.Tests.{eqb-true, eq-eqb}
 use Rattle.pages.proofs.Laws.{valid-list, list-valid}
 use Rattle.processor.specs.State.{inRange}
 use Rattle.processor.specs.Layout.{stateOf}
-use Rattle.replay.specs.Run.{check}
+use Rattle.replay.specs.Run.{checkBy}
 use Rattle.replay.specs.declared.steps.Tested.{Tested}
 use Rattle.replay.specs.declared.steps.Tested.the-variants.{Passed, Failed}
 use Rattle.sheet.specs.Buffers.{laid}
@@ -70,7 +70,7 @@ untouched-by (Failed refusal) whole out e = refl
 
 pub write-untouched : WriteUntouched
 unfolding writes
-write-untouched state pages bytes words out e = untouched-by (check pages (length bytes) (goodState state) (length words)) (text (savedOf state pages bytes words)) out e
+write-untouched state pages bytes words out e = untouched-by (checkBy pages (length bytes) (goodState state) (length words)) (text (savedOf state pages bytes words)) out e
 
 -- ---- a read that is done, and one that is not
 
@@ -157,7 +157,7 @@ pub written-read : WrittenRead
 unfolding writes reads
 written-read state pages bytes words out lent long small-state small-pages small-bytes small-words e =
     let s : Saved = savedOf state pages bytes words in
-    let was = write-was (check pages (length bytes) (goodState state) (length words)) (text s) out long e in
+    let was = write-was (checkBy pages (length bytes) (goodState state) (length words)) (text s) out long e in
     let has = passes pages (length bytes) (goodState state) (length words) (was .good) in
     let sheeted = saved-sheeted state pages bytes words small-state small-pages small-bytes small-words (was .good) in
     rw (was .left, front out (text s) long (was .whole-long), reads-back s sheeted, again state pages bytes words has)
@@ -165,7 +165,7 @@ written-read state pages bytes words out lent long small-state small-pages small
 -- ---- what was read is written
 
 -- the run of a sheet passes the tests of a write, as it did those of the read
-good-again : (s : Saved) → length (s .state) ≡ 10 → tested s ≡ Passed → check (entriesOf (s .pages)) (length (bytesOf (s .pages))) (goodState (s .state)) (length (s .words)) ≡ Passed
+good-again : (s : Saved) → length (s .state) ≡ 10 → tested s ≡ Passed → checkBy (entriesOf (s .pages)) (length (bytesOf (s .pages))) (goodState (s .state)) (length (s .words)) ≡ Passed
 unfolding tested goodState
 good-again s ten good = rw (eq-eqb (length (s .state)) 10 ten) good
 

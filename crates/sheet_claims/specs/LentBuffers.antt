@@ -5,7 +5,7 @@ use mathlib.Core.Path.{_≡_}
 use mathlib.Core.Bool.{Bool, true, false}
 use mathlib.Core.List.{List}
 use lib.ListN.{length, take}
-use Rattle.replay.specs.Run.{check}
+use Rattle.replay.specs.Run.{checkBy}
 use Rattle.replay.specs.declared.steps.Tested.the-variants.{Passed}
 use Rattle.sheet.specs.Digits.{Below}
 use Rattle.sheet.specs.Lines.{fieldCount}
@@ -52,7 +52,7 @@ mostText = 413250
 abbrev pub LongestText : Type 0
 LongestText =
     (state pages bytes words : List ℕ)
-    → check pages (length bytes) (goodState state) (length words) ≡ Passed
+    → checkBy pages (length bytes) (goodState state) (length words) ≡ Passed
     → length (text (savedOf state pages bytes words)) ≤ mostText
 
 abbrev pub readDone : Reading → Bool

@@ -3,7 +3,7 @@ use mathlib.Core.Path.{_≡_}
 use mathlib.Core.List.{List}
 use Prim.Native.Nat.{ℕ, _^_}
 use lib.ListN.{length}
-use Rattle.replay.specs.Run.{check}
+use Rattle.replay.specs.Run.{checkBy}
 use Rattle.replay.specs.declared.steps.Tested.the-variants.{Passed}
 use Rattle.sheet.specs.Digits.{Below}
 use Rattle.sheet.specs.Sheets.{Saved, Sheeted, savedOf, text}
@@ -18,7 +18,7 @@ SavedSheeted =
     → Below (2 ^ 64) pages
     → Below 256 bytes
     → Below (2 ^ 64) words
-    → check pages (length bytes) (goodState state) (length words) ≡ Passed
+    → checkBy pages (length bytes) (goodState state) (length words) ≡ Passed
     → Sheeted (savedOf state pages bytes words)
 
 -- reading what was written returns the run

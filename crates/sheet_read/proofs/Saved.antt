@@ -13,7 +13,7 @@ use Rattle.processor.specs.State.{inRange}
 use Rattle.answers.specs.declared.answer.Refusal.{Refusal}
 use Rattle.answers.specs.declared.answer.Refusal.the-variants.{Length}
 use Rattle.processor.specs.Layout.{stateOf}
-use Rattle.replay.specs.Run.{check}
+use Rattle.replay.specs.Run.{checkBy}
 use Rattle.replay.specs.declared.steps.Tested.the-variants.{Passed, Failed}
 use Rattle.sheet.specs.Lines.{lines}
 use Rattle.sheet.specs.Sheets.{entriesOf, bytesOf}
@@ -72,7 +72,7 @@ module _ (t : List ℕ) (shape : Shape) (s : Shaped t shape) where
   words-long = numbers-length Do (shape .steps) (drop (stepsAt (shape .pages) (shape .words)) t) (s .steps)
 
   pub tested-is : tested (savedAt t shape)
-      ≡ check (entriesIn (shape .pages) (drop bodyAt t)) (pageBytes * shape .pages) (inRange (stateOf (numbers State (take 1 (lines (drop stateAt t)))))) (4 * shape .steps)
+      ≡ checkBy (entriesIn (shape .pages) (drop bodyAt t)) (pageBytes * shape .pages) (inRange (stateOf (numbers State (take 1 (lines (drop stateAt t)))))) (4 * shape .steps)
   unfolding tested savedAt
   tested-is = rw (entries-are, bytes-long, words-long)
 

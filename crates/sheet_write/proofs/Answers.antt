@@ -5,7 +5,7 @@ use mathlib.Core.List.{List}
 use lib.ListN.{length}
 use borrow.Author.Tests.{le-leb, lt-leb}
 use Rattle.answers.specs.declared.answer.Refusal.{Refusal}
-use Rattle.replay.specs.Run.{check}
+use Rattle.replay.specs.Run.{checkBy}
 use Rattle.replay.specs.declared.steps.Tested.the-variants.{Passed, Failed}
 use Rattle.sheet.specs.Buffers.{laid}
 use Rattle.sheet.specs.Sheets.{text, savedOf}
@@ -22,11 +22,11 @@ module _ (whole out : List ℕ) (long : ℕ) (long-is : long ≡ length whole) w
   done after h after-is = rw (after-is, long-is, le-leb (length whole) (length out) (rw (← long-is) h))
 
 module _ (state pages bytes words out : List ℕ) where
-  pub refused : (refusal : Refusal) → check pages (length bytes) (goodState state) (length words) ≡ Failed refusal
+  pub refused : (refusal : Refusal) → checkBy pages (length bytes) (goodState state) (length words) ≡ Failed refusal
       → _≡_ {A = Written} (record { answer = Refused refusal; text = out }) (writes state pages bytes words out)
   unfolding writes
   refused refusal e = rw e
 
-  pub passed : check pages (length bytes) (goodState state) (length words) ≡ Passed → printed (text (savedOf state pages bytes words)) out ≡ writes state pages bytes words out
+  pub passed : checkBy pages (length bytes) (goodState state) (length words) ≡ Passed → printed (text (savedOf state pages bytes words)) out ≡ writes state pages bytes words out
   unfolding writes
   passed e = rw e

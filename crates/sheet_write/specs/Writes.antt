@@ -6,7 +6,7 @@ use lib.ListN.{length}
 use lib.Dec.{eqb, leb}
 use Rattle.processor.specs.State.{inRange}
 use Rattle.processor.specs.Layout.{stateOf}
-use Rattle.replay.specs.Run.{check}
+use Rattle.replay.specs.Run.{checkBy}
 use Rattle.replay.specs.declared.steps.Tested.{Tested}
 use Rattle.replay.specs.declared.steps.Tested.the-variants.{Passed, Failed}
 use Rattle.sheet.specs.Lines.{fieldCount}
@@ -38,4 +38,4 @@ byTest (Failed refusal) whole out = record { answer = Refused refusal; text = ou
 -- The refusals of a run first, but 6, then refusal 8. A refused write leaves the buffer as it was.
 unfoldable pub writes : List ℕ → List ℕ → List ℕ → List ℕ → List ℕ → Written
 writes state pages bytes words out =
-    byTest (check pages (length bytes) (goodState state) (length words)) (text (savedOf state pages bytes words)) out
+    byTest (checkBy pages (length bytes) (goodState state) (length words)) (text (savedOf state pages bytes words)) out

@@ -2,7 +2,7 @@
 ghost use mathlib.Core.Path.{_≡_};
 ghost use Prim.Native.Nat.{_≤_};
 ghost use lib.ListN.{length as count};
-ghost use Rattle.replay.specs.Run.{check as checkOf};
+ghost use Rattle.replay.specs.Run.{checkBy};
 ghost use Rattle.replay.specs.declared.steps.Tested.the-variants.{Passed};
 ghost use Rattle.sheet.specs.Sheets.{text as textOf, savedOf};
 ghost use Rattle.sheet_write.specs.Laying.{textLength};
@@ -48,7 +48,7 @@ fn text_length(pages: usize, values: usize, steps: usize) -> usize
 
 // Writes a run that is not refused.
 fn print(state: &[u64], pages: &[u64], bytes: &[u8], words: &[u64], text: &mut [u8]) -> Writing
-    requires { ⌜ checkOf (now pages) (count (now bytes)) (goodState (now state)) (count (now words)) ≡ Passed ⌝ }
+    requires { ⌜ checkBy (now pages) (count (now bytes)) (goodState (now state)) (count (now words)) ≡ Passed ⌝ }
     ensures { λ r. ⌜ record { answer = r; text = now (text .exit) } ≡ printed (textOf (savedOf (now (state .entry)) (now (pages .entry)) (now (bytes .entry)) (now (words .entry)))) (now (text .entry)) ⌝ }
 {
     let long = text_length(pages.len(), nonzero(bytes), words.len() / STEP_WORDS);

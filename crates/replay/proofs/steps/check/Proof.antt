@@ -3,7 +3,7 @@ use mathlib.Core.Path.{sym, _∙_}
 use borrow.Author.Needs.{needs}
 use borrow.Author.Tests.{not-true, not-false}
 use Rattle.replay.proofs.steps.check.Tie as tie
-use Rattle.replay.specs.Run.{tested}
+use Rattle.replay.specs.Run.{checkBy}
 use Rattle.replay.proofs.steps.check.Statement.{statement}
 
 of-requires : tie.Need-of-requires
@@ -25,34 +25,34 @@ enum-told-5 : tie.Need-enum-told-5
 enum-told-5 c = search needs
 
 returns : tie.Need-returns
-unfolding tested
+unfolding checkBy
 returns c = rw (sym (c .before .before .before .of .ensures) ∙ c .before .enum-told5 .given .1, not-true (c .before .before .before .before .before .args .good) (c .if1 .taken))
 
 bad-words-requires : tie.Need-bad-words-requires
 bad-words-requires c κs = search needs
 
 returns-2 : tie.Need-returns-2
-unfolding tested
+unfolding checkBy
 returns-2 c = rw (sym (c .before .before .before .before .before .of .ensures) ∙ c .before .before .before .enum-told5 .given .1, not-false (c .before .before .before .before .before .before .before .args .good) (c .before .before .if1 .left), sym (c .before .bad-words .ensures) ∙ c .if2 .taken)
 
 returns-3 : tie.Need-returns-3
-unfolding tested
+unfolding checkBy
 returns-3 c = rw (sym (c .before .before .of .ensures) ∙ c .enum-told .given .1)
 
 returns-4 : tie.Need-returns-4
-unfolding tested
+unfolding checkBy
 returns-4 c = rw (sym (c .before .before .of .ensures) ∙ c .enum-told2 .given .1)
 
 returns-5 : tie.Need-returns-5
-unfolding tested
+unfolding checkBy
 returns-5 c = rw (sym (c .before .before .of .ensures) ∙ c .enum-told3 .given .1)
 
 returns-6 : tie.Need-returns-6
-unfolding tested
+unfolding checkBy
 returns-6 c = rw (sym (c .before .before .of .ensures) ∙ c .enum-told4 .given .1)
 
 returns-7 : tie.Need-returns-7
-unfolding tested
+unfolding checkBy
 returns-7 c = rw (sym (c .before .before .before .before .before .of .ensures) ∙ c .before .before .before .enum-told5 .given .1, not-false (c .before .before .before .before .before .before .before .args .good) (c .before .before .if1 .left), sym (c .before .bad-words .ensures) ∙ c .if2 .left)
 
 pub check-spec : {M : Type 1} → statement M

@@ -6,7 +6,7 @@ use mathlib.Core.List.{List}
 use lib.ListN.{length, take, drop}
 use borrow.Author.Needs.{needs}
 use Rattle.pages.specs.Pages.{pageBytes}
-use Rattle.replay.specs.Run.{check}
+use Rattle.replay.specs.Run.{checkBy}
 use Rattle.sheet_read.specs.Scan.{bodyAt, entriesIn}
 use Rattle.sheet_read.proofs.Saved.{laid-front, pages-long, too-many-pages, tested-is}
 use Rattle.sheet_read.proofs.buffers.judge.Statement.{statement}
@@ -47,7 +47,7 @@ check-requires : tie.Need-check-requires
 check-requires c κs = search needs
 
 returns-2 : tie.Need-returns-2
-returns-2 c = c .check .ensures ∙ (ap₂ (λ (entries : List ℕ) (good : Bool). check entries (pageBytes * start (c .before .before) .args .shape .pages) good (4 * start (c .before .before) .args .shape .steps)) (listed (c .before .before)) (c .before .before .before .before .before .before .good-state .ensures) ∙ sym (tested-is _ _ (start (c .before .before) .pre)))
+returns-2 c = c .check .ensures ∙ (ap₂ (λ (entries : List ℕ) (good : Bool). checkBy entries (pageBytes * start (c .before .before) .args .shape .pages) good (4 * start (c .before .before) .args .shape .steps)) (listed (c .before .before)) (c .before .before .before .before .before .before .good-state .ensures) ∙ sym (tested-is _ _ (start (c .before .before) .pre)))
 
 pub judge-spec : {M : Type 1} → statement M
 judge-spec =

@@ -1,7 +1,7 @@
 -- `write` meets its contract: its tests are those of a run, and a run that passes them is printed. Assumes nothing.
 use mathlib.Core.Path.{_≡_, sym, _∙_}
 use lib.ListN.{length}
-use Rattle.replay.specs.Run.{check}
+use Rattle.replay.specs.Run.{checkBy}
 use Rattle.sheet_write.specs.Writes.{goodState}
 use Rattle.sheet_write.proofs.Answers.{refused, passed}
 use borrow.Author.Needs.{needs}
@@ -11,7 +11,7 @@ use Rattle.sheet_write.proofs.text.write.Tie as tie
 -- what the tests found
 tested : (c : tie.After-check)
     → c .check .result
-    ≡ check (c .before .before .before .before .before .before .before .args .pages .now) (length (c .before .before .before .before .before .before .before .args .bytes .now))
+    ≡ checkBy (c .before .before .before .before .before .before .before .args .pages .now) (length (c .before .before .before .before .before .before .before .args .bytes .now))
     (goodState (c .before .before .before .before .before .before .before .args .state .now)) (length (c .before .before .before .before .before .before .before .args .words .now))
 tested c = rw (← c .before .good-state .ensures) (c .check .ensures)
 

@@ -1,1 +1,0 @@
-// No code: bits of a number.
