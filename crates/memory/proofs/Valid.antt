@@ -1,22 +1,16 @@
 -- What a valid page list has, and that each of its pages is found. Assumes nothing.
 use Prim.Native.Nat.{ℕ, zero, suc, _+_, _*_, _/_, _%_, _<_}
 use mathlib.Core.Path.{_≡_, refl, sym, _∙_, ap}
-use mathlib.Core.Bool.{Bool, true, false, not, cond, _||_, true≢false}
+use mathlib.Core.Bool.{Bool, true, false, not, _||_, true≢false}
 use mathlib.Core.List.{List, [], _∷_}
 use native.Mathlib.Omega.{arith}
 use lib.ListN.{length, getD}
-use lib.Dec.{eqb, ltb}
-use borrow.Author.Tests.{lt-ltb, eqb-true, not-false}
-use Rattle.pages.specs.Pages.{pageBytes, pageLimit, pageOf, kindOf, onPage, anyEntry, badKind, badAddress, wrongLength, repeated, listing, inPage, spotFrom, spot}
-use Rattle.pages.specs.declared.pages.Listing.{Listing}
-use Rattle.pages.specs.declared.pages.Listing.the-variants.{Valid, BadLength, BadKind, BadAddress, Repeated}
+use borrow.Author.Tests.{lt-ltb, eqb-true}
+use Rattle.pages.specs.Pages.{pageBytes, pageOf, kindOf, onPage, anyEntry, repeated, listing, inPage, spotFrom, spot}
+use Rattle.pages.specs.declared.pages.Listing.the-variants.{Valid}
 use Rattle.pages.specs.declared.pages.Spot.the-variants.{Unlisted, At}
+use Rattle.pages.proofs.Laws.{neither, valid-list}
 use Rattle.pages.proofs.Steps.{on-page}
-
--- the first of two tests, where neither passes
-neither : (a b : Bool) → (a || b) ≡ false → (a ≡ false) × (b ≡ false)
-neither true b e = absurd (true≢false e)
-neither false b e = (refl, e)
 
 -- ---- what a valid list has
 
@@ -24,23 +18,8 @@ pub record Good (pages : List ℕ) (lent : ℕ) : Type 0 where
   pub lent-is : lent ≡ pageBytes * length pages
   pub apart : repeated pages ≡ false
 
--- a refusal is not `Valid`
-passed : (t : Bool) (refusal next : Listing) → (refusal ≡ Valid → ⊥) → cond t refusal next ≡ Valid → (t ≡ false) × (next ≡ Valid)
-passed true refusal next bad e = absurd (bad e)
-passed false refusal next bad e = (refl, e)
-
-lent-right : (n lent : ℕ) → wrongLength n lent ≡ false → lent ≡ pageBytes * n
-unfolding wrongLength
-lent-right n lent e = eqb-true lent (pageBytes * n) (not-false _ (neither (ltb pageLimit n) (not (eqb lent (pageBytes * n))) e .1))
-
 pub valid : (pages : List ℕ) (lent : ℕ) → listing pages lent ≡ Valid → Good pages lent
-unfolding listing
-valid pages lent e =
-    let one = passed (wrongLength (length pages) lent) BadLength _ (λ q. let z : _≡_ {A = ℕ} 0 1 = cc in omega arith) e in
-    let two = passed (anyEntry badKind pages) BadKind _ (λ q. let z : _≡_ {A = ℕ} 0 1 = cc in omega arith) (one .1) in
-    let three = passed (anyEntry badAddress pages) BadAddress _ (λ q. let z : _≡_ {A = ℕ} 0 1 = cc in omega arith) (two .1) in
-    let four = passed (repeated pages) Repeated _ (λ q. let z : _≡_ {A = ℕ} 0 1 = cc in omega arith) (three .1) in
-    record { lent-is = lent-right (length pages) lent (one .0); apart = four .0 }
+valid pages lent e = let rules = valid-list pages lent e in record { lent-is = rules .whole; apart = rules .apart }
 
 -- ---- every entry is found
 

@@ -25,7 +25,7 @@ page-end n h = omega arith
 -- ---- a test of every entry
 
 -- neither of two tests found anything
-neither : (a b : Bool) → (a || b) ≡ false → (a ≡ false) × (b ≡ false)
+pub neither : (a b : Bool) → (a || b) ≡ false → (a ≡ false) × (b ≡ false)
 neither true b e = absurd (true≢false e)
 neither false b e = (refl, e)
 

@@ -1,7 +1,7 @@
 // A run into the text of its sheet: nothing is written before the run is judged and the text is known to fit.
 ghost use mathlib.Core.Path.{_≡_};
 ghost use Prim.Native.Nat.{_≤_};
-ghost use lib.ListN.{length as count};
+ghost use lib.ListN.{length};
 ghost use Rattle.replay.specs.Run.{checkBy};
 ghost use Rattle.replay.specs.declared.steps.Tested.the-variants.{Passed};
 ghost use Rattle.sheet.specs.Sheets.{text as textOf, savedOf};
@@ -48,7 +48,7 @@ fn text_length(pages: usize, values: usize, steps: usize) -> usize
 
 // Writes a run that is not refused.
 fn print(state: &[u64], pages: &[u64], bytes: &[u8], words: &[u64], text: &mut [u8]) -> Writing
-    requires { ⌜ checkBy (now pages) (count (now bytes)) (goodState (now state)) (count (now words)) ≡ Passed ⌝ }
+    requires { ⌜ checkBy (now pages) (length (now bytes)) (goodState (now state)) (length (now words)) ≡ Passed ⌝ }
     ensures { λ r. ⌜ record { answer = r; text = now (text .exit) } ≡ printed (textOf (savedOf (now (state .entry)) (now (pages .entry)) (now (bytes .entry)) (now (words .entry)))) (now (text .entry)) ⌝ }
 {
     let long = text_length(pages.len(), nonzero(bytes), words.len() / STEP_WORDS);

@@ -1,7 +1,7 @@
 // The values of 8 bytes that the pages hold.
 ghost use mathlib.Core.Path.{_≡_};
 ghost use Prim.Native.Nat.{_+_, _/_, _≤_};
-ghost use lib.ListN.{length as count, drop};
+ghost use lib.ListN.{length, drop};
 ghost use Rattle.sheet.specs.Sheets.{little};
 ghost use Rattle.sheet_write.specs.Values.{nonzeros};
 
@@ -17,7 +17,7 @@ fn wide(byte: u8) -> u64
 
 // The value that lies at a place, low byte first. It is built from its last byte down, so that each turn is one multiplication and one sum.
 pub(crate) fn value_at(bytes: &[u8], at: usize) -> u64
-    requires { ⌜ at + 8 ≤ count (now bytes) ⌝ }
+    requires { ⌜ at + 8 ≤ length (now bytes) ⌝ }
     ensures { λ r. ⌜ r ≡ little 8 (drop at (now (bytes .entry))) ⌝ }
 {
     let mut value: u64 = 0;
@@ -31,7 +31,7 @@ pub(crate) fn value_at(bytes: &[u8], at: usize) -> u64
 
 // How many of the values are not 0.
 pub(crate) fn nonzero(bytes: &[u8]) -> usize
-    ensures { λ r. ⌜ r ≡ nonzeros (count (now (bytes .entry)) / 8) (now (bytes .entry)) ⌝ }
+    ensures { λ r. ⌜ r ≡ nonzeros (length (now (bytes .entry)) / 8) (now (bytes .entry)) ⌝ }
 {
     let values = bytes.len() / VALUE_BYTES;
     let mut found: usize = 0;
