@@ -43,12 +43,15 @@ listed given = instructionAt (given .words)
 abbrev pub listedCount : Input → ℕ
 listedCount given = length (given .words) / 4
 
--- the same but for the state, and but for the pages and their bytes
+-- the same but for the state, but for the pages and their bytes, and but for the words
 abbrev pub withState : Input → State → Input
 withState given s = record { state = s; pages = given .pages; bytes = given .bytes; words = given .words }
 
 abbrev pub withPages : Input → List ℕ → List ℕ → Input
 withPages given pages bytes = record { state = given .state; pages = pages; bytes = bytes; words = given .words }
+
+abbrev pub withWords : Input → List ℕ → Input
+withWords given words = record { state = given .state; pages = given .pages; bytes = given .bytes; words = words }
 
 -- ---- what is tested before any step
 
