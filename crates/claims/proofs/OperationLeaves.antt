@@ -50,8 +50,10 @@ kept s ip sp ssp flags ip-fits sp-fits ssp-fits aligned =
         mode = h .mode;
         cpl = h .cpl;
         cet = h .cet;
-        aligned = aligned h;
         limit = h .limit;
+        ucet = h .ucet;
+        scet = h .scet;
+        aligned = aligned h;
         pointers = λ long. record { ip = ip-fits h long; sp = sp-fits h long; ssp = ssp-fits h long };
       };
     }
