@@ -22,7 +22,7 @@ use Rattle.answers.specs.declared.answer.Refusal.the-variants.{Instruction as B
 use Rattle.processor.specs.declared.state.State.{State}
 use Rattle.instructions.specs.Permission.{hidden}
 use Rattle.perform.specs.Exec.{InstructionSet, exec, refused, perform}
-use Rattle.replay.specs.Run.{after}
+use Rattle.replay.specs.Run.{afterFrom}
 use Rattle.instructions.specs.declared.instruction.Instruction.{Instruction}
 use Rattle.claims.specs.MorePages.{isPageFault}
 
@@ -108,8 +108,8 @@ module _ (look₁ look₂ : Lookup) (lent₁ lent₂ : List ℕ) (places₁ : Pl
 
   -- the first k, where none of them is a page fault in the first memory
   pub alike : (set : InstructionSet) (listed : ℕ → Instruction) (s : State) → Beside look₁ look₂ lent₁ lent₂ lent₁ lent₂
-      → (k : ℕ) → ((j : ℕ) → j < k → isPageFault (after set look₁ listed (suc j) s lent₁ .answer) ≡ false)
-      → StepsAlike look₁ look₂ lent₁ lent₂ (after set look₁ listed k s lent₁) (after set look₂ listed k s lent₂)
-  unfolding after
+      → (k : ℕ) → ((j : ℕ) → j < k → isPageFault (afterFrom set look₁ listed (suc j) s lent₁ .answer) ≡ false)
+      → StepsAlike look₁ look₂ lent₁ lent₂ (afterFrom set look₁ listed k s lent₁) (afterFrom set look₂ listed k s lent₂)
+  unfolding afterFrom
   alike set listed s b zero whole = record { answer = refl; state = refl; memory = b }
   alike set listed s b (suc k) whole = next set (listed k) _ _ (alike set listed s b k (λ j h. whole j (omega arith))) (whole k (omega arith))

@@ -10,11 +10,9 @@
 --     ends-at-stop                               the first k do and the next does not: it ends there, with that one's answer
 use Prim.Native.Nat.{ℕ, zero, suc, _+_, _≤_, _<_}
 use mathlib.Core.Bool.{Bool, true, false, cond}
-use mathlib.Core.List.{List}
 use mathlib.Core.Path.{_≡_, refl, sym, _∙_}
 use native.Mathlib.Decide.{ℕ-discrete}
 use native.Mathlib.Omega.{arith}
-use Rattle.pages.specs.Pages.{Lookup}
 use Rattle.processor.specs.Prog.{Step, Result, ended, broken, settle, interp, operate}
 use Rattle.answers.specs.declared.answer.Answer.{Answer}
 use Rattle.answers.specs.declared.answer.Answer.the-variants.{Completed, Refused, Faulted}
@@ -24,8 +22,7 @@ use Rattle.answers.specs.declared.answer.Refusal.the-variants.{Instruction as B
 use Rattle.processor.specs.declared.state.State.{State}
 use Rattle.instructions.specs.Permission.{hidden}
 use Rattle.perform.specs.Exec.{InstructionSet, exec, refused, perform}
-use Rattle.replay.specs.Run.{Run, endsAt, onward, runFrom, after}
-use Rattle.instructions.specs.declared.instruction.Instruction.{Instruction}
+use Rattle.replay.specs.Run.{Input, lookOf, listed, listedCount, Run, endsAt, onward, runFrom, afterFrom, after}
 use Rattle.claims.specs.Ends.{Unchanged, Counted}
 
 -- ---- answers
@@ -63,17 +60,21 @@ unchanged set look i s bytes stops = go (set .fits i (hidden s)) (interp look (e
 
 -- ---- a run of the steps
 
-module _ (set : InstructionSet) (look : Lookup) (listed : ℕ → Instruction) (s : State) (bytes : List ℕ) where
+module _ (set : InstructionSet) (given : Input) where
   -- the j-th instruction completes
   abbrev pub Done : ℕ → Type 0
-  Done j = after set look listed (suc j) s bytes .answer ≡ Completed
+  Done j = after set given (suc j) .answer ≡ Completed
+
+  -- what is left of the run from the k-th instruction on
+  abbrev rest : ℕ → ℕ → Run
+  rest k left = runFrom set (lookOf given) (listed given) k left (after set given k .state) (after set given k .bytes)
 
   -- the k-th instruction does not complete, and those before it did
-  stopped : (k left : ℕ) → ((j : ℕ) → j < k → Done j) → (Done k → ⊥) → Counted set look listed (k + suc left) s bytes (endsAt k (after set look listed (suc k) s bytes))
-  unfolding after
-  stopped k left before stops =
-      let now : Step = after set look listed k s bytes in
-      let same = unchanged set look (listed k) (now .state) (now .bytes) stops in
+  stopped : (k left : ℕ) → k + suc left ≡ listedCount given → ((j : ℕ) → j < k → Done j) → (Done k → ⊥) → Counted set given (endsAt k (after set given (suc k)))
+  unfolding afterFrom
+  stopped k left all before stops =
+      let now : Step = after set given k in
+      let same = unchanged set (lookOf given) (listed given k) (now .state) (now .bytes) stops in
       record {
         few = omega arith;
         completed = before;
@@ -84,53 +85,52 @@ module _ (set : InstructionSet) (look : Lookup) (listed : ℕ → Instruction) (
       }
 
   -- from the k-th instruction on, if those before it completed
-  counted-from : (k left : ℕ) → ((j : ℕ) → j < k → Done j)
-      → Counted set look listed (k + left) s bytes (runFrom set look listed k left (after set look listed k s bytes .state) (after set look listed k s bytes .bytes))
-  unfolding runFrom after
-  counted-from k zero before = record { few = omega arith; completed = before; state-after = refl; bytes-after = refl; at-end = λ e. omega arith; at-stop = λ no-end. absurd (no-end refl) }
-  counted-from k (suc left) before = go (after set look listed (suc k) s bytes .answer) refl (λ now. counted-from (suc k) left (one-more Done k before now))
+  counted-from : (k left : ℕ) → k + left ≡ listedCount given → ((j : ℕ) → j < k → Done j) → Counted set given (rest k left)
+  unfolding runFrom afterFrom
+  counted-from k zero all before =
+      record { few = omega arith; completed = before; state-after = refl; bytes-after = refl; at-end = λ e. omega arith; at-stop = λ no-end. absurd (no-end refl) }
+  counted-from k (suc left) all before = go (after set given (suc k) .answer) refl (λ now. counted-from (suc k) left (omega arith) (one-more Done k before now))
     where
-      next : Run
-      next = runFrom set look listed (suc k) left (after set look listed (suc k) s bytes .state) (after set look listed (suc k) s bytes .bytes)
-
-      sum : suc k + left ≡ k + suc left
-      sum = omega arith
-
-      go : (a : Answer) → after set look listed (suc k) s bytes .answer ≡ a → (Done k → Counted set look listed (suc k + left) s bytes next)
-          → Counted set look listed (k + suc left) s bytes (onward a next (endsAt k (after set look listed (suc k) s bytes)))
-      go Completed e onwards = rw (← sum) (onwards e)
-      go (Refused refusal) e onwards = stopped k left before (λ d. refused-stops refusal (sym e ∙ d))
-      go (Faulted fault) e onwards = stopped k left before (λ d. faulted-stops fault (sym e ∙ d))
+      go : (a : Answer) → after set given (suc k) .answer ≡ a → (Done k → Counted set given (rest (suc k) left)) → Counted set given (onward a (rest (suc k) left) (endsAt k (after set given (suc k))))
+      go Completed e onwards = onwards e
+      go (Refused refusal) e onwards = stopped k left all before (λ d. refused-stops refusal (sym e ∙ d))
+      go (Faulted fault) e onwards = stopped k left all before (λ d. faulted-stops fault (sym e ∙ d))
 
   -- from the first on
-  pub counted : (n : ℕ) → Counted set look listed n s bytes (runFrom set look listed 0 n s bytes)
-  unfolding after
-  counted n = rw from-zero at (counted-from 0 n (λ j h. absurd (omega arith)))
-    where
-      from-zero : 0 + n ≡ n
-      from-zero = omega arith
+  pub counted : Counted set given (runFrom set (lookOf given) (listed given) 0 (listedCount given) (given .state) (given .bytes))
+  unfolding afterFrom
+  counted = counted-from 0 (listedCount given) (omega arith) (λ j h. absurd (omega arith))
 
   -- ---- where a run ends, by which instructions complete
 
-  module _ (n : ℕ) (r : Run) (c : Counted set look listed n s bytes r) (k : ℕ) (before : (j : ℕ) → j < k → Done j) where
+  module _ (r : Run) (c : Counted set given r) (k : ℕ) (before : (j : ℕ) → j < k → Done j) where
     -- the first k complete, so a run counts at least k
-    pub goes-as-far : k ≤ n → k ≤ r .count
+    pub goes-as-far : k ≤ listedCount given → k ≤ r .count
     goes-as-far few = let enough : r .count < k → ⊥ = short in omega arith
       where
         short : r .count < k → ⊥
-        short h = elim (completes (r .answer)) [ yes e ↦ let all : r .count ≡ n = c .at-end e in omega arith | no stops ↦ stops (sym (c .at-stop stops .1) ∙ before (r .count) h) ]
+        short h =
+            elim (completes (r .answer)) [
+              | yes e ↦ let all : r .count ≡ listedCount given = c .at-end e in omega arith
+              | no stops ↦ stops (sym (c .at-stop stops .1) ∙ before (r .count) h)
+            ]
 
     -- all complete: the run ends at the end of the list
-    pub ends-at-end : k ≡ n → (r .count ≡ k) × (r .answer ≡ Completed)
+    pub ends-at-end : k ≡ listedCount given → (r .count ≡ k) × (r .answer ≡ Completed)
     ends-at-end all =
         let far : k ≤ r .count = goes-as-far (omega arith) in
-        let few : r .count ≤ n = c .few in
-        (omega arith, elim (completes (r .answer)) [ yes e ↦ e | no stops ↦ let early : r .count < n = c .at-stop stops .0 in absurd (omega arith) ])
+        let few : r .count ≤ listedCount given = c .few in
+        (omega arith, elim (completes (r .answer)) [ yes e ↦ e | no stops ↦ let early : r .count < listedCount given = c .at-stop stops .0 in absurd (omega arith) ])
 
     -- the next does not complete: the run ends there, with its answer
-    pub ends-at-stop : k < n → (Done k → ⊥) → (r .count ≡ k) × (r .answer ≡ after set look listed (suc k) s bytes .answer)
+    pub ends-at-stop : k < listedCount given → (Done k → ⊥) → (r .count ≡ k) × (r .answer ≡ after set given (suc k) .answer)
     ends-at-stop h stops =
         let far : k ≤ r .count = goes-as-far (omega arith) in
         let no-farther : k < r .count → ⊥ = λ beyond. stops (c .completed k beyond) in
-        let there : r .count ≡ k = omega arith in
-        (there, elim (completes (r .answer)) [ yes e ↦ let all : r .count ≡ n = c .at-end e in absurd (omega arith) | no ends ↦ sym (rw there at (c .at-stop ends .1)) ])
+        let there : r .count ≡ k = omega arith in (
+          there,
+          elim (completes (r .answer)) [
+            | yes e ↦ let all : r .count ≡ listedCount given = c .at-end e in absurd (omega arith)
+            | no ends ↦ sym (rw there at (c .at-stop ends .1))
+          ],
+        )

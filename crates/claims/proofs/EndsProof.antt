@@ -1,17 +1,12 @@
 -- Demand 1: how a run ends, and what it leaves. Assumes nothing.
-use Prim.Native.Nat.{ℕ, _/_, _≤_, _<_}
-use mathlib.Core.List.{List}
+use Prim.Native.Nat.{ℕ, _≤_, _<_}
 use mathlib.Core.Path.{_≡_, refl}
-use lib.ListN.{length}
-use Rattle.memory.specs.Access.{lookupOf}
 use Rattle.processor.specs.Prog.{Step}
-use Rattle.processor.specs.State.{inRange}
 use Rattle.answers.specs.declared.answer.Answer.{Answer}
 use Rattle.answers.specs.declared.answer.Answer.the-variants.{Completed, Refused, Faulted}
-use Rattle.processor.specs.declared.state.State.{State}
-use Rattle.instructions.specs.Instruction.{instructionAt}
+use Rattle.instructions.specs.Instruction.{instructionAt, alone}
 use Rattle.perform.specs.Exec.{InstructionSet, perform}
-use Rattle.replay.specs.Run.{check, stepIf, step, Run, onward, endsAt, runIf, runFrom, run}
+use Rattle.replay.specs.Run.{Input, lookOf, listed, listedCount, withWords, check, stepIf, step, Run, onward, endsAt, runIf, runFrom, run}
 use Rattle.replay.specs.declared.steps.Tested.{Tested}
 use Rattle.replay.specs.declared.steps.Tested.the-variants.{Passed, Failed}
 use Rattle.claims.specs.Ends.{RefusedBefore, CountTied, AllComplete, CompletedExactly, StepIsRun, stepsTaken, AtMostN}
@@ -20,37 +15,36 @@ pub use Rattle.claims.proofs.Counts.{unchanged}
 
 pub refused-before : RefusedBefore
 unfolding run
-refused-before set pages s bytes words refusal e = rw e
+refused-before set given refusal e = rw e
 
 pub count-tied : CountTied
 unfolding run
-count-tied set pages s bytes words e = rw e (counted set (lookupOf pages bytes) (instructionAt words) s bytes (length words / 4))
+count-tied set given e = rw e (counted set given)
 
-module _ (set : InstructionSet) (pages : List ℕ) (s : State) (bytes words : List ℕ) where
-  abbrev tested : Tested
-  tested = check pages (length bytes) (inRange s) (length words)
-
+module _ (set : InstructionSet) (given : Input) where
   -- a run that completes was not refused before its first step
-  passed : run set pages s bytes words .answer ≡ Completed → tested ≡ Passed
+  passed : run set given .answer ≡ Completed → check given ≡ Passed
   unfolding run
-  passed e = go tested refl e
+  passed e = go (check given) refl e
     where
-      go : (t : Tested) → tested ≡ t → runIf t (runFrom set (lookupOf pages bytes) (instructionAt words) 0 (length words / 4) s bytes) s bytes .answer ≡ Completed → tested ≡ Passed
+      steps-run : Run
+      steps-run = runFrom set (lookOf given) (listed given) 0 (listedCount given) (given .state) (given .bytes)
+
+      go : (t : Tested) → check given ≡ t → runIf t steps-run (given .state) (given .bytes) .answer ≡ Completed → check given ≡ Passed
       go Passed h q = h
       go (Failed refusal) h q = absurd (refused-stops refusal q)
 
   -- its count is the whole list's, and what is counted completed
-  all-complete : run set pages s bytes words .answer ≡ Completed → AllComplete set pages s bytes words
+  all-complete : run set given .answer ≡ Completed → AllComplete set given
   all-complete e j h =
-      let c = count-tied set pages s bytes words (passed e) in
+      let c = count-tied set given (passed e) in
       c .completed j (rw (c .at-end e) h)
 
-  completes-all : tested ≡ Passed → AllComplete set pages s bytes words → run set pages s bytes words .answer ≡ Completed
-  completes-all e all =
-      ends-at-end set (lookupOf pages bytes) (instructionAt words) s bytes (length words / 4) (run set pages s bytes words) (count-tied set pages s bytes words e) (length words / 4) all refl .1
+  completes-all : check given ≡ Passed → AllComplete set given → run set given .answer ≡ Completed
+  completes-all e all = ends-at-end set given (run set given) (count-tied set given e) (listedCount given) all refl .1
 
 pub completed-exactly : CompletedExactly
-completed-exactly set pages s bytes words = (λ e. (passed set pages s bytes words e, all-complete set pages s bytes words e), completes-all set pages s bytes words)
+completed-exactly set given = (λ e. (passed set given e, all-complete set given e), completes-all set given)
 
 -- the step that did not complete is one of the list
 steps : (a : Answer) (count n : ℕ) → count ≤ n → ((a ≡ Completed → ⊥) → count < n) → stepsTaken a count ≤ n
@@ -59,9 +53,9 @@ steps (Refused refusal) count n few early = early (refused-stops refusal)
 steps (Faulted fault) count n few early = early (faulted-stops fault)
 
 pub at-most-n : AtMostN
-at-most-n set pages s bytes words e =
-    let c = count-tied set pages s bytes words e in
-    steps (run set pages s bytes words .answer) (run set pages s bytes words .count) (length words / 4) (c .few) (λ stops. c .at-stop stops .0)
+at-most-n set given e =
+    let c = count-tied set given e in
+    steps (run set given .answer) (run set given .count) (listedCount given) (c .few) (λ stops. c .at-stop stops .0)
 
 -- ---- one instruction by itself
 
@@ -75,14 +69,14 @@ one-step k now (Faulted fault) e = (refl, refl, refl)
 
 pub step-is-run : StepIsRun
 unfolding step run runFrom instructionAt
-step-is-run set pages i s bytes = go (check pages (length bytes) (inRange s) 4)
+step-is-run set given i = go (check (withWords given (alone i)))
   where
     now : Step
-    now = perform set (lookupOf pages bytes) i s bytes
+    now = perform set (lookOf given) i (given .state) (given .bytes)
 
     go : (t : Tested)
-        → let r : Run = runIf t (onward (now .answer) (record { count = 1; answer = Completed; state = now .state; bytes = now .bytes }) (endsAt 0 now)) s bytes in
-        let alone-step : Step = stepIf t now s bytes in
+        → let r : Run = runIf t (onward (now .answer) (record { count = 1; answer = Completed; state = now .state; bytes = now .bytes }) (endsAt 0 now)) (given .state) (given .bytes) in
+        let alone-step : Step = stepIf t now (given .state) (given .bytes) in
         (alone-step .answer ≡ r .answer) × (alone-step .state ≡ r .state) × (alone-step .bytes ≡ r .bytes)
     go Passed = one-step 1 now (now .answer) refl
     go (Failed refusal) = (refl, refl, refl)

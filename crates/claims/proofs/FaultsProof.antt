@@ -9,9 +9,8 @@ use mathlib.Core.Bool.{Bool, true, false, cond}
 use mathlib.Core.List.{List}
 use mathlib.Core.Path.{_≡_, refl, sym, _∙_, ap, subst}
 use native.Mathlib.Omega.{arith}
-use lib.ListN.{length}
 use borrow.Author.Tests.{ne-eqb}
-use Rattle.memory.specs.Access.{lookupOf, probe, value, written}
+use Rattle.memory.specs.Access.{probe, value, written}
 use Rattle.pages.specs.Pages.{Lookup}
 use Rattle.memory.specs.declared.access.Access.{Access}
 use Rattle.memory.specs.declared.access.Failure.{Failure}
@@ -23,7 +22,7 @@ use Rattle.memory.specs.declared.access.Reach.the-variants.{Ready, Blocked}
 use Rattle.answers.specs.Blame.{notCanonical, blame}
 use Rattle.answers.specs.Answer.{vectorNumber, plainFault, ud, ss, gp, pageFault, cpNearRet, cpRstorssp}
 use Rattle.processor.specs.Prog.{Prog, Result, ended, broken, onReach, interp, Step, settle, operate}
-use Rattle.processor.specs.State.{permitted, inRange}
+use Rattle.processor.specs.State.{permitted}
 use Rattle.answers.specs.declared.answer.Answer.the-variants.{Refused, Faulted}
 use Rattle.answers.specs.declared.answer.Fault.{Fault}
 use Rattle.answers.specs.declared.answer.Refusal.{Refusal}
@@ -31,17 +30,19 @@ use Rattle.answers.specs.declared.answer.Refusal.the-variants.{Instruction as B
 use Rattle.answers.specs.declared.answer.Vector.{Vector}
 use Rattle.answers.specs.declared.answer.Vector.the-variants.{InvalidOpcode, Stack, Protection}
 use Rattle.processor.specs.declared.state.State.{State}
-use Rattle.instructions.specs.Instruction.{instructionAt, sizeOf}
+use Rattle.instructions.specs.Operation.{decoded}
 use Rattle.instructions.specs.Permission.{hidden}
-use Rattle.perform.specs.Exec.{InstructionSet, operationOf, exec, refused, perform}
-use Rattle.perform.specs.Codes.{target, framed, operationFrom9, operation, codes}
-use Rattle.replay.specs.Run.{check, Run, run, after}
+use Rattle.perform.specs.Exec.{InstructionSet, orWrss, exec, refused, perform}
+use Rattle.perform.specs.Codes.{target, framed, program}
+use Rattle.perform.proofs.ExecLaws.{built-whole}
+use Rattle.replay.specs.Run.{Input, lookOf, listed, check, Run, run, afterFrom, after, built}
 use Rattle.instructions.specs.declared.instruction.Instruction.{Instruction}
+use Rattle.instructions.specs.declared.operation.Operation.{Operation}
+use Rattle.instructions.specs.declared.operation.Operation.the-variants.{Incssp, Rstorssp, Saveprevssp, Wrss, Call, Ret, Wruss, Unknown}
 use Rattle.replay.specs.declared.steps.Tested.{Tested}
 use Rattle.replay.specs.declared.steps.Tested.the-variants.{Passed, Failed}
 use Rattle.claims.specs.Faults.{Numbered, FaultNumbers}
 use Rattle.claims.proofs.OperationStops.{Stops, ends, faults, loads, stores, then-stops, Plain, incssp-stops, wrss-stops, wruss-stops, rstorssp-stops, saveprevssp-stops, call-stops, ret-stops}
-use Rattle.claims.proofs.CodeNames.{Named, wrss, incssp, rstorssp, saveprevssp, call, ret, wruss, unknown, named}
 use Rattle.claims.proofs.Counts.{faulted-stops}
 use Rattle.claims.proofs.EndsProof.{refused-before, count-tied}
 
@@ -79,79 +80,73 @@ module _ (P : Fault → Type 0) (of-access : (a : Access) (failure : Failure) �
 -- a run ends in the fault of the single operation at its count
 run-faults : (P : Instruction → Fault → Type 0) → ((i : Instruction) (a : Access) (failure : Failure) → P i (blame a failure))
     → (set : InstructionSet) → ((i : Instruction) (s : State) → Stops (P i) (exec set i s))
-    → (pages : List ℕ) (s : State) (bytes words : List ℕ) (fault : Fault) → run set pages s bytes words .answer ≡ Faulted fault → P (instructionAt words (run set pages s bytes words .count)) fault
-unfolding after
-run-faults P of-access set stops pages s bytes words fault e = go (check pages (length bytes) (inRange s) (length words)) refl
+    → (given : Input) (fault : Fault) → run set given .answer ≡ Faulted fault → P (listed given (run set given .count)) fault
+unfolding afterFrom
+run-faults P of-access set stops given fault e = go (check given) refl
   where
-    look : Lookup
-    look = lookupOf pages bytes
-
     r : Run
-    r = run set pages s bytes words
+    r = run set given
 
     last : Step
-    last = after set look (instructionAt words) (r .count) s bytes
+    last = after set given (r .count)
 
     at : Instruction
-    at = instructionAt words (r .count)
+    at = listed given (r .count)
 
-    go : (t : Tested) → check pages (length bytes) (inRange s) (length words) ≡ t → P at fault
+    go : (t : Tested) → check given ≡ t → P at fault
     go Passed h =
-        let there = count-tied set pages s bytes words h .at-stop (λ q. faulted-stops fault (sym e ∙ q)) in
-        performed (P at) (of-access at) look fault set at (last .state) (last .bytes) (stops _ _) (there .1 ∙ e)
-    go (Failed refusal) h = absurd (refused-no-fault refusal fault (sym (ap (λ (q : Run). q .answer) (refused-before set pages s bytes words refusal h)) ∙ e))
+        let there = count-tied set given h .at-stop (λ q. faulted-stops fault (sym e ∙ q)) in
+        performed (P at) (of-access at) (lookOf given) fault set at (last .state) (last .bytes) (stops _ _) (there .1 ∙ e)
+    go (Failed refusal) h = absurd (refused-no-fault refusal fault (sym (ap (λ (q : Run). q .answer) (refused-before set given refusal h)) ∙ e))
 
 -- ---- the faults of the rules
 
-module _ (i : Instruction) where
+module _ (op : Operation) where
   -- error code 0 and no address, if it is not #CP
-  no-code : (vector : Vector) → (vectorNumber vector ≡ 21 → ⊥) → Numbered i (plainFault vector)
+  no-code : (vector : Vector) → (vectorNumber vector ≡ 21 → ⊥) → Numbered op (plainFault vector)
   no-code vector other = record { code = rw (ne-eqb _ _ other); control = λ e. absurd (other e); address = λ e. refl }
 
-  of-protection : Numbered i gp
+  of-protection : Numbered op gp
   of-protection = no-code Protection (λ e. omega arith)
 
-  of-stack : Numbered i ss
+  of-stack : Numbered op ss
   of-stack = no-code Stack (λ e. omega arith)
 
-  numbered : Plain (Numbered i)
+  numbered : Plain (Numbered op)
   numbered = record { of-ud = no-code InvalidOpcode (λ e. omega arith); of-ss = of-stack; of-gp = of-protection }
 
-  page : (address : ℕ) → Numbered i (pageFault address)
+  page : (address : ℕ) → Numbered op (pageFault address)
   page address = record { code = refl; control = λ e. absurd (omega arith); address = λ other. absurd (other refl) }
 
-  not-canonical : (kind : Kind) → Numbered i (notCanonical kind)
+  not-canonical : (kind : Kind) → Numbered op (notCanonical kind)
   not-canonical UserShadow = of-protection
   not-canonical SupervisorShadow = of-protection
   not-canonical Ordinary = of-stack
 
-  blamed : (a : Access) (failure : Failure) → Numbered i (blame a failure)
+  blamed : (a : Access) (failure : Failure) → Numbered op (blame a failure)
   blamed a NotCanonical = not-canonical (a .kind)
   blamed a (NotListed address) = page address
   blamed a (WrongKind address) = page address
 
-  -- ---- an instruction, by its code
+-- ---- an instruction, by its operation
 
-  operation-stops : (allowed : Bool) (s : State) → Named i → Stops (Numbered i) (operationOf codes i allowed s)
-  unfolding operationOf operation operationFrom9
-  operation-stops allowed s (wrss t) = rw (t .is-wrss) (wrss-stops numbered (sizeOf i) allowed (i .a) (i .b) (i .length) s)
-  operation-stops allowed s (incssp t) = rw (t .is-wrss, t .is-incssp) (incssp-stops numbered (sizeOf i) (i .b) (i .length) s)
-  operation-stops allowed s (rstorssp t) =
-      let of-cp : Numbered i cpRstorssp = record { code = rw (t .is-ret); control = λ e. rw (t .is-rstorssp); address = λ e. refl } in
-      rw (t .is-wrss, t .is-incssp, t .is-rstorssp) (rstorssp-stops numbered of-cp (i .a) (i .length) s)
-  operation-stops allowed s (saveprevssp t) = rw (t .is-wrss, t .is-incssp, t .is-rstorssp, t .is-saveprevssp) (saveprevssp-stops numbered (i .length) s)
-  operation-stops allowed s (call t) = rw (t .is-wrss, t .is-incssp, t .is-rstorssp, t .is-saveprevssp, t .is-call) (call-stops numbered (target i s) (framed i) (i .length) s)
-  operation-stops allowed s (ret t) =
-      let of-cp : Numbered i cpNearRet = record { code = rw (t .is-ret); control = λ e. rw (t .is-rstorssp, t .is-ret); address = λ e. refl } in
-      rw (t .is-wrss, t .is-incssp, t .is-rstorssp, t .is-saveprevssp, t .is-call, t .is-ret) (ret-stops numbered of-cp (i .a) s)
-  operation-stops allowed s (wruss t) =
-      rw (t .is-wrss, t .is-incssp, t .is-rstorssp, t .is-saveprevssp, t .is-call, t .is-ret, t .is-wruss) (wruss-stops numbered (sizeOf i) (i .a) (i .b) (i .length) s)
-  operation-stops allowed s (unknown t) =
-      rw (t .is-wrss, t .is-incssp, t .is-rstorssp, t .is-saveprevssp, t .is-call, t .is-ret, t .is-wruss) (faults ud (numbered .of-ud))
+operation-stops : (op : Operation) (i : Instruction) (allowed : Bool) (s : State) → Stops (Numbered op) (orWrss op i allowed s (program op i s))
+operation-stops (Incssp size) i allowed s = incssp-stops (numbered (Incssp size)) size (i .b) (i .length) s
+operation-stops Rstorssp i allowed s =
+    let of-cp : Numbered Rstorssp cpRstorssp = record { code = refl; control = λ e. omega arith; address = λ e. refl } in
+    rstorssp-stops (numbered Rstorssp) of-cp (i .a) (i .length) s
+operation-stops Saveprevssp i allowed s = saveprevssp-stops (numbered Saveprevssp) (i .length) s
+operation-stops (Wrss size) i allowed s = wrss-stops (numbered (Wrss size)) size allowed (i .a) (i .b) (i .length) s
+operation-stops (Call how) i allowed s = call-stops (numbered (Call how)) (target how i s) (framed how i) (i .length) s
+operation-stops (Ret release) i allowed s =
+    let of-cp : Numbered (Ret release) cpNearRet = record { code = refl; control = λ e. omega arith; address = λ e. refl } in
+    ret-stops (numbered (Ret release)) of-cp (i .a) s
+operation-stops (Wruss size) i allowed s = wruss-stops (numbered (Wruss size)) size (i .a) (i .b) (i .length) s
+operation-stops Unknown i allowed s = faults ud (numbered Unknown .of-ud)
 
-  exec-stops : (s : State) → Stops (Numbered i) (exec codes i s)
-  unfolding exec
-  exec-stops s = then-stops (operation-stops (permitted s) (hidden s) (named i (i .code) refl)) (λ t. ends)
+exec-stops : (given : Input) (i : Instruction) (s : State) → Stops (Numbered (decoded (i .code))) (exec (built given) i s)
+unfolding exec
+exec-stops given i s = rw (built-whole i (permitted s) (hidden s)) (then-stops (operation-stops (decoded (i .code)) i (permitted s) (hidden s)) (λ t. ends))
 
 pub fault-numbers : FaultNumbers
-fault-numbers = run-faults Numbered blamed codes exec-stops
+fault-numbers given = run-faults (λ i. Numbered (decoded (i .code))) (λ i. blamed (decoded (i .code))) (built given) (exec-stops given) given

@@ -9,17 +9,18 @@ use Rattle.pages.specs.Pages.{Lookup}
 use Rattle.memory.specs.declared.access.Size.{Size}
 use Rattle.answers.specs.Answer.{ud}
 use Rattle.processor.specs.State.{usable, permitted}
-use Rattle.processor.specs.Prog.{Prog, stop, _>>=_, interp, Step, operate}
+use Rattle.processor.specs.Prog.{Prog, stop, _>>=_, Result, ended, broken, interp, Step, operate}
 use Rattle.answers.specs.declared.answer.Answer.{Answer}
 use Rattle.answers.specs.declared.answer.Answer.the-variants.{Completed, Refused, Faulted}
+use Rattle.answers.specs.declared.answer.Fault.{Fault}
 use Rattle.answers.specs.declared.answer.Refusal.the-variants.{Instruction as BadForm}
 use Rattle.processor.specs.declared.state.State.{State}
-use Rattle.processor.proofs.Laws.{faults}
+use Rattle.processor.proofs.Laws.{continues, breaks, faults}
 use Rattle.perform.proofs.ExecLaws.{putBack, backFrom, put-back}
 use Rattle.wrss.specs.Wrss.{wrss}
-use Rattle.instructions.specs.Instruction.{isWrss, sizeOf}
+use Rattle.instructions.specs.Operation.{decoded, isWrss, wrssSize}
 use Rattle.instructions.specs.Permission.{hidden}
-use Rattle.perform.specs.Exec.{InstructionSet, operationOf, exec, refused, perform}
+use Rattle.perform.specs.Exec.{InstructionSet, operationOf, whole, exec, refused, perform}
 use Rattle.replay.specs.Run.{endsAt}
 use Rattle.instructions.specs.declared.instruction.Instruction.{Instruction}
 use Rattle.claims.specs.MoreRights.{granted, isUd, notPermitted}
@@ -45,15 +46,15 @@ module _ (size : Size) (a b length : ℕ) (s : State) where
 
 -- the instruction is a WRSS that this state does not permit
 abbrev denied : Instruction → State → Bool
-denied i s = isWrss i && (usable s && not (permitted s))
+denied i s = isWrss (decoded (i .code)) && (usable s && not (permitted s))
 
 module _ (set : InstructionSet) (i : Instruction) (s : State) where
   denied-program : denied i s ≡ true → operationOf set i (permitted s) (hidden s) ≡ stop ud
   unfolding operationOf
   denied-program e =
-      let parts = and-eq-true-iff (isWrss i) (usable s && not (permitted s)) .0 e in
+      let parts = and-eq-true-iff (isWrss (decoded (i .code))) (usable s && not (permitted s)) .0 e in
       let off = not-true (permitted s) (and-eq-true-iff (usable s) (not (permitted s)) .0 (parts .1) .1) in
-      rw (parts .0, off) (wrss-not-permitted (sizeOf i) (i .a) (i .b) (i .length) (hidden s) (usable (hidden s)) refl)
+      rw (parts .0, off) (wrss-not-permitted (wrssSize (decoded (i .code))) (i .a) (i .b) (i .length) (hidden s) (usable (hidden s)) refl)
 
 module _ (user supervisor : Bool) (s : State) where
   -- by whether it is usable: if so it was permitted and still is, if not both give #UD
@@ -68,14 +69,14 @@ module _ (user supervisor : Bool) (s : State) where
 
   -- the program is the same, whatever else the instruction is
   same-program : (set : InstructionSet) (i : Instruction) → denied i s ≡ false
-      → operationOf set i (permitted (granted user supervisor s)) (hidden (granted user supervisor s)) ≡ operationOf set i (permitted s) (hidden s)
+      → operationOf set i (permitted (granted user supervisor s)) (hidden s) ≡ operationOf set i (permitted s) (hidden s)
   unfolding operationOf
-  same-program set i e = rw (hidden-granted user supervisor s) (go (isWrss i) e)
+  same-program set i e = go (isWrss (decoded (i .code))) e
     where
       go : (t : Bool) → t && (usable s && not (permitted s)) ≡ false
-          → cond t (wrss (sizeOf i) (permitted (granted user supervisor s)) (i .a) (i .b) (i .length) (hidden s)) (set .operation i (hidden s))
-          ≡ cond t (wrss (sizeOf i) (permitted s) (i .a) (i .b) (i .length) (hidden s)) (set .operation i (hidden s))
-      go true q = same-wrss (sizeOf i) (i .a) (i .b) (i .length) (usable s) refl q
+          → cond t (wrss (wrssSize (decoded (i .code))) (permitted (granted user supervisor s)) (i .a) (i .b) (i .length) (hidden s)) (set .operation i (hidden s))
+          ≡ cond t (wrss (wrssSize (decoded (i .code))) (permitted s) (i .a) (i .b) (i .length) (hidden s)) (set .operation i (hidden s))
+      go true q = same-wrss (wrssSize (decoded (i .code))) (i .a) (i .b) (i .length) (usable s) refl q
       go false q = refl
 
 -- ---- what is handed back, with the bits put back
@@ -96,29 +97,53 @@ same-put-back user supervisor look p s bytes =
 -- ---- one instruction
 
 module _ (set : InstructionSet) (look : Lookup) (i : Instruction) (s : State) (bytes : List ℕ) where
-  denied-exec : denied i s ≡ true → operate look (exec set i s) s bytes ≡ record { answer = Faulted ud; state = s; bytes = bytes }
-  unfolding exec interp
-  denied-exec e = rw (denied-program set i s e) (put-back look (stop ud) s s bytes ∙ ap (backFrom s) (faults look (stop ud) s bytes ud refl))
+  -- what its program gives where it breaks off: the state with its bits, and the bytes
+  broken-off : Fault → Step
+  broken-off fault = record { answer = Faulted fault; state = s; bytes = bytes }
 
-  module _ (user supervisor : Bool) where
-    -- its operation, by whether it is denied; where it is, the answer tells
-    same-exec : (t : Bool) → denied i s ≡ t → isUd (operate look (exec set i s) s bytes .answer) && denied i (operate look (exec set i s) s bytes .state) ≡ false
-        → operate look (exec set i (granted user supervisor s)) (granted user supervisor s) bytes ≡ onStep user supervisor (operate look (exec set i s) s bytes)
-    unfolding exec
-    same-exec true d e = absurd (true≢false (sym d ∙ (rw (denied-exec d) at e)))
-    same-exec false d e =
-        rw (same-program user supervisor s set i d) (same-put-back user supervisor look (operationOf set i (permitted s) (hidden s)) s bytes)
+  exec-faults : (fault : Fault) → interp look (whole set i (permitted s) (hidden s)) bytes ≡ broken fault → operate look (exec set i s) s bytes ≡ broken-off fault
+  unfolding exec broken-off
+  exec-faults fault e =
+      put-back look (whole set i (permitted s) (hidden s)) s s bytes ∙ ap (backFrom s) (faults look (whole set i (permitted s) (hidden s)) s bytes fault e)
 
-    -- the whole step, where a run that ended with it would not have ended because a WRSS was not permitted
-    pub same-step : (k : ℕ) → notPermitted (endsAt k (perform set look i s bytes)) i ≡ false
-        → perform set look i (granted user supervisor s) bytes ≡ onStep user supervisor (perform set look i s bytes)
-    unfolding perform notPermitted
-    same-step k e = rw (hidden-granted user supervisor s) (go (set .fits i (hidden s)) e)
-      where
-        now : Bool → Step
-        now t = cond t (operate look (exec set i s) s bytes) (refused BadForm s bytes)
+  -- by how what precedes it ends: that breaks off
+  before-faults : (fault : Fault) → interp look (set .precedes i (hidden s)) bytes ≡ broken fault → operate look (exec set i s) s bytes ≡ broken-off fault
+  unfolding whole
+  before-faults fault e = exec-faults fault (breaks look (λ x. operationOf set i (permitted s) (hidden s)) (set .precedes i (hidden s)) bytes fault e)
 
-        go : (t : Bool) → isUd (now t .answer) && denied i (now t .state) ≡ false
-            → cond t (operate look (exec set i (granted user supervisor s)) (granted user supervisor s) bytes) (refused BadForm (granted user supervisor s) bytes) ≡ onStep user supervisor (now t)
-        go true q = same-exec (denied i s) refl q
-        go false q = refl
+  -- or the instruction is denied after it
+  denied-faults : denied i s ≡ true → (x : Unit {0}) (left : List ℕ) → interp look (set .precedes i (hidden s)) bytes ≡ ended x left → operate look (exec set i s) s bytes ≡ broken-off ud
+  unfolding whole interp
+  denied-faults d x left e =
+      exec-faults ud
+      (continues look (λ x. operationOf set i (permitted s) (hidden s)) (set .precedes i (hidden s)) bytes x left e ∙ ap (λ (p : Prog State). interp look p left) (denied-program set i s d))
+
+module _ (set : InstructionSet) (look : Lookup) (i : Instruction) (s : State) (bytes : List ℕ) (user supervisor : Bool) where
+  abbrev more : State
+  more = granted user supervisor s
+
+  -- What precedes it sees the same, so a fault there is one in both. Past that a denied one tells by its answer, and any other is the same program.
+  same-exec : (t : Bool) → denied i s ≡ t → isUd (operate look (exec set i s) s bytes .answer) && denied i (operate look (exec set i s) s bytes .state) ≡ false
+      → operate look (exec set i more) more bytes ≡ onStep user supervisor (operate look (exec set i s) s bytes)
+  unfolding exec whole broken-off
+  same-exec true d e = go (interp look (set .precedes i (hidden s)) bytes) refl
+    where
+      go : (r : Result (Unit {0})) → interp look (set .precedes i (hidden s)) bytes ≡ r → operate look (exec set i more) more bytes ≡ onStep user supervisor (operate look (exec set i s) s bytes)
+      go (ended x left) q = absurd (true≢false (sym d ∙ (rw (denied-faults set look i s bytes d x left q) at e)))
+      go (broken fault) q =
+          before-faults set look i more bytes fault (rw (hidden-granted user supervisor s) q) ∙ sym (ap (onStep user supervisor) (before-faults set look i s bytes fault q))
+  same-exec false d e =
+      rw (hidden-granted user supervisor s, same-program user supervisor s set i d) (same-put-back user supervisor look (whole set i (permitted s) (hidden s)) s bytes)
+
+  -- the whole step, where a run that ended with it would not have ended because a WRSS was not permitted
+  pub same-step : (k : ℕ) → notPermitted (endsAt k (perform set look i s bytes)) i ≡ false → perform set look i more bytes ≡ onStep user supervisor (perform set look i s bytes)
+  unfolding perform notPermitted
+  same-step k e = rw (hidden-granted user supervisor s) (go (set .fits i (hidden s)) e)
+    where
+      now : Bool → Step
+      now t = cond t (operate look (exec set i s) s bytes) (refused BadForm s bytes)
+
+      go : (t : Bool) → isUd (now t .answer) && denied i (now t .state) ≡ false
+          → cond t (operate look (exec set i more) more bytes) (refused BadForm more bytes) ≡ onStep user supervisor (now t)
+      go true q = same-exec (denied i s) refl q
+      go false q = refl

@@ -28,7 +28,6 @@ mod PermissionBits
 mod Leaves
 mod OperationLeaves
 mod OperationStops
-mod CodeNames
 mod Completions
 mod RangeParts
 mod KeptAlong

@@ -1,10 +1,10 @@
 -- The order of a page list has no meaning of its own: two runs over the same pages end alike, page faults included. Assumes nothing.
-use Prim.Native.Nat.{ℕ, suc, _/_}
+use Prim.Native.Nat.{ℕ, suc}
 use mathlib.Core.Bool.{Bool, true, false, cond, true≢false}
 use mathlib.Core.List.{List}
 use mathlib.Core.Path.{_≡_, refl, sym, _∙_}
 use lib.ListN.{length}
-use Rattle.memory.specs.Access.{lookupOf, probe, value, written}
+use Rattle.memory.specs.Access.{probe, value, written}
 use Rattle.memory.specs.Extends.{Places, HoldsPages}
 use Rattle.pages.specs.Pages.{Lookup, listing}
 use Rattle.memory.specs.declared.access.Access.{Access}
@@ -13,15 +13,13 @@ use Rattle.memory.specs.declared.access.Reach.the-variants.{Ready, Blocked}
 use Rattle.pages.specs.declared.pages.Listing.the-variants.{Valid}
 use Rattle.memory.proofs.Laws.{lookup-places, same-value, alike-probe, order-free as same-cells}
 use Rattle.processor.specs.Prog.{Prog, done, stop, fetch, put, Result, onReach, interp, settle, operate}
-use Rattle.processor.specs.State.{inRange}
 use Rattle.answers.specs.declared.answer.Answer.{Answer}
 use Rattle.answers.specs.declared.answer.Answer.the-variants.{Completed}
 use Rattle.answers.specs.declared.answer.Refusal.the-variants.{Instruction as BadForm}
 use Rattle.processor.specs.declared.state.State.{State}
-use Rattle.instructions.specs.Instruction.{instructionAt}
 use Rattle.instructions.specs.Permission.{hidden}
 use Rattle.perform.specs.Exec.{InstructionSet, exec, refused, perform}
-use Rattle.replay.specs.Run.{check, Run, run, after}
+use Rattle.replay.specs.Run.{Input, lookOf, listed, withPages, check, Run, run, afterFrom, after}
 use Rattle.instructions.specs.declared.instruction.Instruction.{Instruction}
 use Rattle.replay.specs.declared.steps.Tested.{Tested}
 use Rattle.replay.specs.declared.steps.Tested.the-variants.{Passed, Failed}
@@ -77,35 +75,33 @@ module _ (look₁ look₂ : Lookup) (lent₁ lent₂ : List ℕ) (places₁ : Pl
 without-fault : (pages₁ pages₂ lent₂ : List ℕ) (r₁ r₂ : Run) → EndsAlike pages₁ pages₂ lent₂ r₁ r₂ → SameEnd pages₁ pages₂ r₁ r₂
 without-fault pages₁ pages₂ lent₂ r₁ r₂ alike = record { count = alike .count; answer = alike .answer; registers = alike .memory .registers; bytes = alike .memory .old }
 
-module _ (pages₁ lent₁ pages₂ lent₂ : List ℕ) (valid₁ : listing pages₁ (length lent₁) ≡ Valid) (valid₂ : listing pages₂ (length lent₂) ≡ Valid)
-    (there : HoldsPages pages₁ lent₁ pages₂ lent₂) (back : HoldsPages pages₂ lent₂ pages₁ lent₁) (set : InstructionSet) (s : State) (words : List ℕ) where
-  abbrev look₁ : Lookup
-  look₁ = lookupOf pages₁ lent₁
-
-  abbrev look₂ : Lookup
-  look₂ = lookupOf pages₂ lent₂
+module _ (set : InstructionSet) (given : Input) (pages₂ lent₂ : List ℕ) (valid₁ : listing (given .pages) (length (given .bytes)) ≡ Valid) (valid₂ : listing pages₂ (length lent₂) ≡ Valid)
+    (there : HoldsPages (given .pages) (given .bytes) pages₂ lent₂) (back : HoldsPages pages₂ lent₂ (given .pages) (given .bytes)) where
+  abbrev other : Input
+  other = withPages given pages₂ lent₂
 
   -- What trying finds depends on where addresses lead, which no store alters: it is enough that the lent bytes are alike.
-  tried : (a : Access) → probe look₁ a ≡ probe look₂ a
-  tried = alike-probe look₁ lent₁ look₂ lent₂ (same-cells pages₁ lent₁ pages₂ lent₂ valid₁ valid₂ there back)
+  tried : (a : Access) → probe (lookOf given) a ≡ probe (lookOf other) a
+  tried = alike-probe (lookOf given) (given .bytes) (lookOf other) lent₂ (same-cells (given .pages) (given .bytes) pages₂ lent₂ valid₁ valid₂ there back)
 
-  module _ (r₁ r₂ : Run) (c₁ : Counted set look₁ (instructionAt words) (length words / 4) s lent₁ r₁) (c₂ : Counted set look₂ (instructionAt words) (length words / 4) s lent₂ r₂) where
+  module _ (r₁ r₂ : Run) (c₁ : Counted set given r₁) (c₂ : Counted set other r₂) where
     -- the instruction after those that completed has one answer in both
-    next-answer : after set look₂ (instructionAt words) (suc (r₁ .count)) s lent₂ .answer ≡ after set look₁ (instructionAt words) (suc (r₁ .count)) s lent₁ .answer
-    unfolding after
+    next-answer : after set other (suc (r₁ .count)) .answer ≡ after set given (suc (r₁ .count)) .answer
+    unfolding afterFrom
     next-answer =
-        let now = same-after pages₁ lent₁ pages₂ lent₂ valid₁ valid₂ there set s words (r₁ .count) (whole pages₁ lent₁ pages₂ lent₂ valid₁ valid₂ there set s words r₁ r₂ c₁ c₂) in
+        let now = same-after set given pages₂ lent₂ valid₁ valid₂ there (r₁ .count) (whole set given pages₂ lent₂ valid₁ valid₂ there r₁ r₂ c₁ c₂) in
         rw (now .state)
-        (same-answer look₁ look₂ lent₁ lent₂ (lookup-places pages₁ lent₁) (lookup-places pages₂ lent₂) tried set (instructionAt words (r₁ .count)) _ _ _ (now .memory))
+        (same-answer (lookOf given) (lookOf other) (given .bytes) lent₂ (lookup-places (given .pages) (given .bytes)) (lookup-places pages₂ lent₂) tried
+        set (listed given (r₁ .count)) _ _ _ (now .memory))
 
     -- the first ends with a page fault: the second ends there too, with the same one
-    at-fault : isPageFault (r₁ .answer) ≡ true → SameEnd pages₁ pages₂ r₁ r₂
+    at-fault : isPageFault (r₁ .answer) ≡ true → SameEnd (given .pages) pages₂ r₁ r₂
     at-fault page =
         let stop₁ = c₁ .at-stop stops in
-        let same : after set look₂ (instructionAt words) (suc (r₁ .count)) s lent₂ .answer ≡ r₁ .answer = next-answer ∙ stop₁ .1 in
-        let before = completed₂ pages₁ lent₁ pages₂ lent₂ valid₁ valid₂ there set s words r₁ r₂ c₁ c₂ in
-        let end = ends-at-stop set look₂ (instructionAt words) s lent₂ (length words / 4) r₂ c₂ (r₁ .count) before (stop₁ .0) (λ d. stops (sym same ∙ d)) in
-        let memory = then-memory pages₁ lent₁ pages₂ lent₂ valid₁ valid₂ there set s words r₁ r₂ c₁ c₂ in
+        let same : after set other (suc (r₁ .count)) .answer ≡ r₁ .answer = next-answer ∙ stop₁ .1 in
+        let before = completed₂ set given pages₂ lent₂ valid₁ valid₂ there r₁ r₂ c₁ c₂ in
+        let end = ends-at-stop set other r₂ c₂ (r₁ .count) before (stop₁ .0) (λ d. stops (sym same ∙ d)) in
+        let memory = then-memory set given pages₂ lent₂ valid₁ valid₂ there r₁ r₂ c₁ c₂ in
         record {
           count = end .0;
           answer = end .1 ∙ same;
@@ -117,27 +113,24 @@ module _ (pages₁ lent₁ pages₂ lent₂ : List ℕ) (valid₁ : listing page
         stops e = true≢false (sym page ∙ no-fault (r₁ .answer) e)
 
 pub order-free : OrderFree
-order-free set s words pages₁ bytes₁ pages₂ bytes₂ valid₁ valid₂ there back = by (check pages₁ (length bytes₁) (inRange s) (length words)) refl
+order-free set given pages₂ lent₂ valid₁ valid₂ there back = by (check given) refl
   where
     r₁ : Run
-    r₁ = run set pages₁ s bytes₁ words
+    r₁ = run set given
 
     r₂ : Run
-    r₂ = run set pages₂ s bytes₂ words
+    r₂ = run set (withPages given pages₂ lent₂)
 
-    other : isPageFault (r₁ .answer) ≡ false → SameEnd pages₁ pages₂ r₁ r₂
-    other no-page = without-fault pages₁ pages₂ bytes₂ r₁ r₂ (more-pages set s words pages₁ bytes₁ pages₂ bytes₂ valid₁ valid₂ there .0 no-page)
+    no-page-fault : isPageFault (r₁ .answer) ≡ false → SameEnd (given .pages) pages₂ r₁ r₂
+    no-page-fault no-page = without-fault (given .pages) pages₂ lent₂ r₁ r₂ (more-pages set given pages₂ lent₂ valid₁ valid₂ there .0 no-page)
 
-    by : (t : Tested) → check pages₁ (length bytes₁) (inRange s) (length words) ≡ t → SameEnd pages₁ pages₂ r₁ r₂
+    by : (t : Tested) → check given ≡ t → SameEnd (given .pages) pages₂ r₁ r₂
     by Passed e = ends (isPageFault (r₁ .answer)) refl
       where
-        c₁ : Counted set (lookupOf pages₁ bytes₁) (instructionAt words) (length words / 4) s bytes₁ r₁
-        c₁ = count-tied set pages₁ s bytes₁ words e
+        c₂ : Counted set (withPages given pages₂ lent₂) r₂
+        c₂ = count-tied set (withPages given pages₂ lent₂) (same-test set given pages₂ lent₂ valid₁ valid₂ there ∙ e)
 
-        c₂ : Counted set (lookupOf pages₂ bytes₂) (instructionAt words) (length words / 4) s bytes₂ r₂
-        c₂ = count-tied set pages₂ s bytes₂ words (same-test pages₁ bytes₁ pages₂ bytes₂ valid₁ valid₂ there (inRange s) (length words) ∙ e)
-
-        ends : (page : Bool) → isPageFault (r₁ .answer) ≡ page → SameEnd pages₁ pages₂ r₁ r₂
-        ends true page = at-fault pages₁ bytes₁ pages₂ bytes₂ valid₁ valid₂ there back set s words r₁ r₂ c₁ c₂ page
-        ends false page = other page
-    by (Failed refusal) e = other (rw (refused-before set pages₁ s bytes₁ words refusal e))
+        ends : (page : Bool) → isPageFault (r₁ .answer) ≡ page → SameEnd (given .pages) pages₂ r₁ r₂
+        ends true page = at-fault set given pages₂ lent₂ valid₁ valid₂ there back r₁ r₂ (count-tied set given e) c₂ page
+        ends false page = no-page-fault page
+    by (Failed refusal) e = no-page-fault (rw (refused-before set given refusal e))

@@ -1,21 +1,17 @@
 -- Demand 3 for the permission bits: by induction over the list, each step of the second run being that of the first with the bits
 -- switched on. Assumes nothing.
-use Prim.Native.Nat.{ℕ, zero, suc, _/_, _≤_}
+use Prim.Native.Nat.{ℕ, zero, suc, _≤_}
 use mathlib.Core.Bool.{Bool, true, false}
 use mathlib.Core.List.{List}
 use mathlib.Core.Path.{_≡_, refl, sym, _∙_, ap}
 use native.Mathlib.Omega.{arith}
-use lib.ListN.{length}
-use Rattle.memory.specs.Access.{lookupOf}
 use Rattle.pages.specs.Pages.{Lookup}
-use Rattle.processor.specs.State.{inRange}
 use Rattle.processor.specs.Prog.{Step}
 use Rattle.answers.specs.declared.answer.Answer.{Answer}
 use Rattle.answers.specs.declared.answer.Answer.the-variants.{Completed, Refused, Faulted}
 use Rattle.processor.specs.declared.state.State.{State}
-use Rattle.instructions.specs.Instruction.{instructionAt}
 use Rattle.perform.specs.Exec.{InstructionSet, perform}
-use Rattle.replay.specs.Run.{check, Run, endsAt, onward, runFrom, runIf, run, after}
+use Rattle.replay.specs.Run.{lookOf, listed, listedCount, check, Run, endsAt, onward, runFrom, runIf, run, afterFrom}
 use Rattle.instructions.specs.declared.instruction.Instruction.{Instruction}
 use Rattle.replay.specs.declared.steps.Tested.{Tested}
 use Rattle.replay.specs.declared.steps.Tested.the-variants.{Passed, Failed}
@@ -26,17 +22,17 @@ use Rattle.claims.proofs.GrantedSteps.{onStep, same-step}
 use Rattle.claims.proofs.PermissionBits.{range-granted}
 
 -- the second run starts from the state s₀ and the bytes bytes₀
-module _ (set : InstructionSet) (look : Lookup) (listed : ℕ → Instruction) (user supervisor : Bool) (s₀ : State) (bytes₀ : List ℕ) where
+module _ (set : InstructionSet) (look : Lookup) (at : ℕ → Instruction) (user supervisor : Bool) (s₀ : State) (bytes₀ : List ℕ) where
   -- the claim of two runs, or of what is left of them
   abbrev Beside : Run → Run → Type 0
   Beside r₁ r₂ =
-      (notPermitted r₁ (listed (r₁ .count)) ≡ false → AlikeButBits user supervisor r₁ r₂)
-      × (notPermitted r₁ (listed (r₁ .count)) ≡ true → AlikeBefore user supervisor r₁ r₂ (after set look listed (r₁ .count) s₀ bytes₀))
+      (notPermitted r₁ (at (r₁ .count)) ≡ false → AlikeButBits user supervisor r₁ r₂)
+      × (notPermitted r₁ (at (r₁ .count)) ≡ true → AlikeBefore user supervisor r₁ r₂ (afterFrom set look at (r₁ .count) s₀ bytes₀))
 
   -- after k single operations the second has what the first has, but for the bits
   record Reached (k : ℕ) (s : State) (bytes : List ℕ) : Type 0 where
-    state-is : after set look listed k s₀ bytes₀ .state ≡ granted user supervisor s
-    bytes-are : after set look listed k s₀ bytes₀ .bytes ≡ bytes
+    state-is : afterFrom set look at k s₀ bytes₀ .state ≡ granted user supervisor s
+    bytes-are : afterFrom set look at k s₀ bytes₀ .bytes ≡ bytes
 
   -- both end before the k-th instruction, with the same answer
   ends-before : (k : ℕ) (answer : Answer) (s : State) (bytes : List ℕ) → Reached k s bytes
@@ -47,13 +43,13 @@ module _ (set : InstructionSet) (look : Lookup) (listed : ℕ → Instruction) (
   -- the k-th instruction in both
   module _ (k : ℕ) (s : State) (bytes : List ℕ) (reached : Reached k s bytes) where
     abbrev now₁ : Step
-    now₁ = perform set look (listed k) s bytes
+    now₁ = perform set look (at k) s bytes
 
     abbrev now₂ : Step
-    now₂ = perform set look (listed k) (granted user supervisor s) bytes
+    now₂ = perform set look (at k) (granted user supervisor s) bytes
 
     next-reached : now₂ ≡ onStep user supervisor now₁ → Reached (suc k) (now₁ .state) (now₁ .bytes)
-    unfolding after
+    unfolding afterFrom
     next-reached e = record {
       state-is = rw (reached .state-is, reached .bytes-are) (ap (λ (now : Step). now .state) e);
       bytes-are = rw (reached .state-is, reached .bytes-are) (ap (λ (now : Step). now .bytes) e);
@@ -72,9 +68,9 @@ module _ (set : InstructionSet) (look : Lookup) (listed : ℕ → Instruction) (
         registers = ap (λ (r : Run). r .state) e;
       }
 
-      stops-before : (now₁ .answer ≡ Completed → ⊥) → AlikeBefore user supervisor (endsAt k now₁) rest₂ (after set look listed k s₀ bytes₀)
+      stops-before : (now₁ .answer ≡ Completed → ⊥) → AlikeBefore user supervisor (endsAt k now₁) rest₂ (afterFrom set look at k s₀ bytes₀)
       stops-before stopped =
-          let kept = unchanged set look (listed k) s bytes stopped in
+          let kept = unchanged set look (at k) s bytes stopped in
           record {
             count = onward-count k (now₂ .answer) more now₂ later;
             bytes = reached .bytes-are ∙ sym (kept .1);
@@ -82,7 +78,7 @@ module _ (set : InstructionSet) (look : Lookup) (listed : ℕ → Instruction) (
           }
 
       stops : (answer : Answer) → now₁ .answer ≡ answer → (answer ≡ Completed → ⊥) → ((go end : Run) → onward answer go end ≡ end) → Beside (endsAt k now₁) rest₂
-      stops answer a stopped ends = (λ q. stops-alike (same (same-step set look (listed k) s bytes user supervisor k q)), λ q. stops-before (λ c. stopped (sym a ∙ c)))
+      stops answer a stopped ends = (λ q. stops-alike (same (same-step set look (at k) s bytes user supervisor k q)), λ q. stops-before (λ c. stopped (sym a ∙ c)))
         where
           same : now₂ ≡ onStep user supervisor now₁ → rest₂ ≡ endsAt k (onStep user supervisor now₁)
           same e = ap (λ (now : Step). onward (now .answer) more (endsAt k now)) e ∙ rw a (ends more _)
@@ -92,37 +88,37 @@ module _ (set : InstructionSet) (look : Lookup) (listed : ℕ → Instruction) (
         → Beside (onward answer more₁ (endsAt k now₁)) (onward (now₂ .answer) more₂ (endsAt k now₂))
     unfolding notPermitted
     turn Completed more₁ more₂ a later rest =
-        let e = same-step set look (listed k) s bytes user supervisor k (rw a) in
+        let e = same-step set look (at k) s bytes user supervisor k (rw a) in
         rw (ap (λ (now : Step). now .answer) e ∙ a) (rest e)
     turn (Refused refusal) more₁ more₂ a later rest = stops more₂ later (Refused refusal) a (refused-stops refusal) (λ go end. refl)
     turn (Faulted fault) more₁ more₂ a later rest = stops more₂ later (Faulted fault) a (faulted-stops fault) (λ go end. refl)
 
   -- from the k-th instruction on
-  beside-from : (k left : ℕ) (s : State) (bytes : List ℕ) → Reached k s bytes → Beside (runFrom set look listed k left s bytes) (runFrom set look listed k left (granted user supervisor s) bytes)
+  beside-from : (k left : ℕ) (s : State) (bytes : List ℕ) → Reached k s bytes → Beside (runFrom set look at k left s bytes) (runFrom set look at k left (granted user supervisor s) bytes)
   unfolding runFrom
   beside-from k zero s bytes reached = ends-before k Completed s bytes reached
   beside-from k (suc left) s bytes reached =
-      let first : Step = perform set look (listed k) s bytes in
-      let second : Step = perform set look (listed k) (granted user supervisor s) bytes in
-      let more : suc k ≤ runFrom set look listed (suc k) left (second .state) (second .bytes) .count = count-from set look listed (suc k) left (second .state) (second .bytes) in
+      let first : Step = perform set look (at k) s bytes in
+      let second : Step = perform set look (at k) (granted user supervisor s) bytes in
+      let more : suc k ≤ runFrom set look at (suc k) left (second .state) (second .bytes) .count = count-from set look at (suc k) left (second .state) (second .bytes) in
       turn k s bytes reached (first .answer) _ _ refl (omega arith) (λ e. rw e (beside-from (suc k) left (first .state) (first .bytes) (next-reached k s bytes reached e)))
 
 -- ---- whole runs
 
 pub more-rights : MoreRights
-unfolding run after
-more-rights set user supervisor s words pages bytes = rw (range-granted user supervisor s) (go (check pages (length bytes) (inRange s) (length words)))
+unfolding run check afterFrom
+more-rights set user supervisor given = rw (range-granted user supervisor s) (go (check given))
   where
-    look : Lookup
-    look = lookupOf pages bytes
+    s : State
+    s = given .state
 
     -- the run from a state, by what is tested before any step
     runOf : Tested → State → Run
-    runOf t from = runIf t (runFrom set look (instructionAt words) 0 (length words / 4) from bytes) from bytes
+    runOf t from = runIf t (runFrom set (lookOf given) (listed given) 0 (listedCount given) from (given .bytes)) from (given .bytes)
 
-    start : Reached set look (instructionAt words) user supervisor (granted user supervisor s) bytes 0 s bytes
+    start : Reached set (lookOf given) (listed given) user supervisor (granted user supervisor s) (given .bytes) 0 s (given .bytes)
     start = record { state-is = refl; bytes-are = refl }
 
-    go : (t : Tested) → Beside set look (instructionAt words) user supervisor (granted user supervisor s) bytes (runOf t s) (runOf t (granted user supervisor s))
-    go Passed = beside-from set look (instructionAt words) user supervisor (granted user supervisor s) bytes 0 (length words / 4) s bytes start
-    go (Failed refusal) = ends-before set look (instructionAt words) user supervisor (granted user supervisor s) bytes 0 (Refused refusal) s bytes start
+    go : (t : Tested) → Beside set (lookOf given) (listed given) user supervisor (granted user supervisor s) (given .bytes) (runOf t s) (runOf t (granted user supervisor s))
+    go Passed = beside-from set (lookOf given) (listed given) user supervisor (granted user supervisor s) (given .bytes) 0 (listedCount given) s (given .bytes) start
+    go (Failed refusal) = ends-before set (lookOf given) (listed given) user supervisor (granted user supervisor s) (given .bytes) 0 (Refused refusal) s (given .bytes) start

@@ -24,11 +24,14 @@ use Rattle.processor.specs.Layout.{withIp, withSp}
 use Rattle.answers.specs.declared.answer.Refusal.the-variants.{Instruction as BadForm}
 use Rattle.processor.specs.declared.state.State.{State}
 use Rattle.call.specs.Call.{displacement, moved, relative, displaced, inCode, pushed, runsPast, pushesFrame, call}
-use Rattle.instructions.specs.Instruction.{oneOf, wellFormed}
+use Rattle.instructions.specs.Operation.{decoded}
+use Rattle.instructions.specs.Instruction.{wellFormed}
 use Rattle.instructions.specs.Permission.{hidden, shown}
-use Rattle.perform.specs.Exec.{operationOf, exec, refused, perform}
-use Rattle.perform.specs.Codes.{target, framed, operation, codes}
+use Rattle.perform.specs.Exec.{operationOf, whole, exec, refused, perform}
+use Rattle.perform.specs.Codes.{target, codes}
 use Rattle.instructions.specs.declared.instruction.Instruction.{Instruction}
+use Rattle.instructions.specs.declared.operation.Operation.the-variants.{Call}
+use Rattle.instructions.specs.declared.operation.Target.the-variants.{Relative}
 use Rattle.claims.specs.NextLine.{isOrdinary, SameOrdinary, withShadow, SameNextLine, NextLineUntouched}
 
 -- two tests and one push
@@ -50,20 +53,20 @@ no-frame target length s = rw (never (enabled s))
     never false = refl
 
 -- the target depends on neither
-target-alike : (i : Instruction) (s : State) (cet ssp : ℕ) → target i (hidden (withShadow s cet ssp)) ≡ target i (hidden s)
-unfolding target relative next plus minus hidden
-target-alike i s cet ssp = ap (λ (n : ℕ). cond (eqb (i .code) 7) n (i .a)) (by (displacement (i .a)))
+target-alike : (i : Instruction) (s : State) (cet ssp : ℕ) → target Relative i (hidden (withShadow s cet ssp)) ≡ target Relative i (hidden s)
+unfolding relative next plus minus hidden
+target-alike i s cet ssp = by (displacement (i .a))
   where
     by : (z : ℤ) → moved (hidden (withShadow s cet ssp)) (next (hidden s) (i .length)) z ≡ moved (hidden s) (next (hidden s) (i .length)) z
     by (pos d) = refl
     by (negsuc d) = refl
 
--- what code 7 with A 0 does, once its target is known
+-- what a relative call with A 0 does, once its target is known
 abbrev plain : ℕ → ℕ → State → Prog State
 plain to length s = unframed to length (hidden s) >>= (λ t. done (shown s t))
 
-is-plain : (i : Instruction) (s : State) → i .code ≡ 7 → i .a ≡ 0 → exec codes i s ≡ plain (target i (hidden s)) (i .length) s
-unfolding exec operationOf operation oneOf framed displaced
+is-plain : (i : Instruction) (s : State) → decoded (i .code) ≡ Call Relative → i .a ≡ 0 → exec codes i s ≡ plain (target Relative i (hidden s)) (i .length) s
+unfolding exec whole operationOf displaced _>>=_
 is-plain i s code a = rw (code, a) (ap (λ (p : Prog State). p >>= (λ t. done (shown s t))) (no-frame _ (i .length) (hidden s)))
 
 -- ---- the push
@@ -137,10 +140,10 @@ same-next-line look₁ look₂ same i s bytes₁ bytes₂ cet ssp code a =
     rw (is-plain i s code a, is-plain i (withShadow s cet ssp) code a, target-alike i s cet ssp) (go (wellFormed i (s .mode)))
   where
     one : Lookup → State → List ℕ → Bool → Step
-    one look from bytes t = cond t (operate look (plain (target i (hidden s)) (i .length) from) from bytes) (refused BadForm from bytes)
+    one look from bytes t = cond t (operate look (plain (target Relative i (hidden s)) (i .length) from) from bytes) (refused BadForm from bytes)
 
     go : (t : Bool) → Alike cet ssp (one look₁ s bytes₁ t) (one look₂ (withShadow s cet ssp) bytes₂ t)
-    go true = plain-alike look₁ look₂ same (target i (hidden s)) (i .length) s bytes₁ bytes₂ cet ssp
+    go true = plain-alike look₁ look₂ same (target Relative i (hidden s)) (i .length) s bytes₁ bytes₂ cet ssp
     go false = (refl, refl)
 
 -- ---- the bytes
@@ -166,6 +169,6 @@ pub next-line-untouched : NextLineUntouched
 unfolding perform hidden
 next-line-untouched look i s bytes places code a address off = rw (is-plain i s code a) (go (wellFormed i (s .mode)))
   where
-    go : (t : Bool) → cell look (cond t (operate look (plain (target i (hidden s)) (i .length) s) s bytes) (refused BadForm s bytes) .bytes) address ≡ cell look bytes address
-    go true = plain-kept look (target i (hidden s)) (i .length) s bytes places address off
+    go : (t : Bool) → cell look (cond t (operate look (plain (target Relative i (hidden s)) (i .length) s) s bytes) (refused BadForm s bytes) .bytes) address ≡ cell look bytes address
+    go true = plain-kept look (target Relative i (hidden s)) (i .length) s bytes places address off
     go false = refl

@@ -51,8 +51,10 @@ kept s ip sp ssp flags ip-fits sp-fits ssp-fits aligned =
         mode = h .mode;
         cpl = h .cpl;
         cet = h .cet;
-        aligned = aligned h;
         limit = h .limit;
+        ucet = h .ucet;
+        scet = h .scet;
+        aligned = aligned h;
         pointers = λ long. record { ip = ip-fits h long; sp = sp-fits h long; ssp = ssp-fits h long };
       };
     }
@@ -170,7 +172,8 @@ saveprevssp-leaves length s =
     then-leaves _ _ _ _ (top-leaves s (plus s (s .ssp) 8)) (λ top is.
     tested-leaves _ (savedToken s token) gp _ (λ good.
     all-leaves _ _ _ (λ x.
-    rw is (kept s _ _ _ _ (next-fits s length) (sp-fits s) (past-fits s) (λ h. past-of-4 s (h .aligned)))))))))
+    all-leaves _ _ _ (λ y.
+    rw is (kept s _ _ _ _ (next-fits s length) (sp-fits s) (past-fits s) (λ h. past-of-4 s (h .aligned))))))))))
 
 -- below what is pushed, where a frame is
 abbrev pub belowPushed : State → Bool → ℕ

@@ -111,7 +111,7 @@ module _ {P : Fault → Type 0} (plain : Plain P) where
       (then-stops (loads _ (λ v. ends)) (λ token.
       then-stops (top-stops s _) (λ top.
       tested-stops (savedToken s token) gp (plain .of-gp)
-      (then-stops (then-stops (stores _ _ ends) (λ x. stores _ _ ends)) (λ y. ends))))))
+      (then-stops (stores _ _ ends) (λ x. then-stops (stores _ _ ends) (λ y. ends)))))))
 
   pub call-stops : (target : ℕ) (framed : Bool) (length : ℕ) (s : State) → Stops P (call target framed length s)
   unfolding call

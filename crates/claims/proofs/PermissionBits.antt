@@ -5,7 +5,7 @@ use mathlib.Core.Path.{_≡_, refl, ap, ap₂}
 use native.Mathlib.Omega.{arith}
 use lib.Dec.{eqb}
 use borrow.Author.Tests.{eqb-true, eq-eqb}
-use Rattle.processor.specs.State.{userMode, enabled, usable, permitted, inRange}
+use Rattle.processor.specs.State.{userMode, enabled, usable, permitted, fixedFit, cetFits, pointersFit, inRange}
 use Rattle.processor.specs.declared.state.State.{State}
 use Rattle.instructions.specs.Permission.{writeBit, withoutWrite, hidden, shown}
 use Rattle.processor.specs.Layout.{withCet}
@@ -61,7 +61,7 @@ unfolding shown granted
 shown-granted user supervisor s t = ap₂ (withCet t) (with-switched user (s .ucet) (t .ucet)) (with-switched supervisor (s .scet) (t .scet))
 
 pub range-granted : (user supervisor : Bool) (s : State) → inRange (granted user supervisor s) ≡ inRange s
-unfolding inRange granted
+unfolding inRange fixedFit cetFits pointersFit granted
 range-granted user supervisor s = refl
 
 pub still-permitted : (user supervisor : Bool) (s : State) → permitted s ≡ true → permitted (granted user supervisor s) ≡ true

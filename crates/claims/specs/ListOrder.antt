@@ -6,9 +6,8 @@ use lib.ListN.{length}
 use Rattle.pages.specs.Pages.{listing}
 use Rattle.memory.specs.Extends.{HoldsPages}
 use Rattle.pages.specs.declared.pages.Listing.the-variants.{Valid}
-use Rattle.processor.specs.declared.state.State.{State}
 use Rattle.perform.specs.Exec.{InstructionSet}
-use Rattle.replay.specs.Run.{Run, run}
+use Rattle.replay.specs.Run.{Input, withPages, Run, run}
 
 -- two runs over the same pages in another order end alike: count, answer, registers, and each page's bytes
 pub record SameEnd (pages₁ pages₂ : List ℕ) (r₁ r₂ : Run) : Type 0 where
@@ -20,9 +19,9 @@ pub record SameEnd (pages₁ pages₂ : List ℕ) (r₁ r₂ : Run) : Type 0 whe
 -- Any instruction set, any state, any words; two valid lists, each holding every page of the other. Here a page fault is alike too, with
 -- the address that it names.
 abbrev pub OrderFree : Type 0
-OrderFree = (set : InstructionSet) (s : State) (words pages₁ bytes₁ pages₂ bytes₂ : List ℕ)
-    → listing pages₁ (length bytes₁) ≡ Valid
+OrderFree = (set : InstructionSet) (given : Input) (pages₂ bytes₂ : List ℕ)
+    → listing (given .pages) (length (given .bytes)) ≡ Valid
     → listing pages₂ (length bytes₂) ≡ Valid
-    → HoldsPages pages₁ bytes₁ pages₂ bytes₂
-    → HoldsPages pages₂ bytes₂ pages₁ bytes₁
-    → SameEnd pages₁ pages₂ (run set pages₁ s bytes₁ words) (run set pages₂ s bytes₂ words)
+    → HoldsPages (given .pages) (given .bytes) pages₂ bytes₂
+    → HoldsPages pages₂ bytes₂ (given .pages) (given .bytes)
+    → SameEnd (given .pages) pages₂ (run set given) (run set (withPages given pages₂ bytes₂))

@@ -5,7 +5,6 @@ use mathlib.Core.Bool.{Bool, true, false}
 use mathlib.Core.List.{List}
 use lib.ListN.{length}
 use lib.Dec.{eqb}
-use Rattle.memory.specs.Access.{lookupOf}
 use Rattle.pages.specs.Pages.{listing}
 use Rattle.memory.specs.Extends.{HoldsPages, Untouched}
 use Rattle.pages.specs.declared.pages.Listing.the-variants.{Valid}
@@ -13,9 +12,8 @@ use Rattle.answers.specs.Answer.{reportOf}
 use Rattle.processor.specs.Prog.{Step}
 use Rattle.answers.specs.declared.answer.Answer.{Answer}
 use Rattle.processor.specs.declared.state.State.{State}
-use Rattle.instructions.specs.Instruction.{instructionAt}
 use Rattle.perform.specs.Exec.{InstructionSet}
-use Rattle.replay.specs.Run.{Run, run, after}
+use Rattle.replay.specs.Run.{Input, withPages, Run, run, after}
 
 -- the answer is a page fault: its vector is 14
 abbrev pub isPageFault : Answer → Bool
@@ -42,9 +40,10 @@ pub record GoesAsFar (pages₁ pages₂ lent₂ : List ℕ) (r₁ r₂ : Run) (t
 -- Any instruction set, any state, any words; two valid page lists, the second holding every page of the first. What the first run has
 -- handed back is what stood after its count of single operations (`CountTied`).
 abbrev pub MorePages : Type 0
-MorePages = (set : InstructionSet) (s : State) (words pages₁ bytes₁ pages₂ bytes₂ : List ℕ)
-    → listing pages₁ (length bytes₁) ≡ Valid → listing pages₂ (length bytes₂) ≡ Valid → HoldsPages pages₁ bytes₁ pages₂ bytes₂
-    → let r₁ : Run = run set pages₁ s bytes₁ words in
-    let r₂ : Run = run set pages₂ s bytes₂ words in
-    (isPageFault (r₁ .answer) ≡ false → EndsAlike pages₁ pages₂ bytes₂ r₁ r₂)
-    × (isPageFault (r₁ .answer) ≡ true → GoesAsFar pages₁ pages₂ bytes₂ r₁ r₂ (after set (lookupOf pages₂ bytes₂) (instructionAt words) (r₁ .count) s bytes₂))
+MorePages = (set : InstructionSet) (given : Input) (pages₂ bytes₂ : List ℕ)
+    → listing (given .pages) (length (given .bytes)) ≡ Valid → listing pages₂ (length bytes₂) ≡ Valid → HoldsPages (given .pages) (given .bytes) pages₂ bytes₂
+    → let more : Input = withPages given pages₂ bytes₂ in
+    let r₁ : Run = run set given in
+    let r₂ : Run = run set more in
+    (isPageFault (r₁ .answer) ≡ false → EndsAlike (given .pages) pages₂ bytes₂ r₁ r₂)
+    × (isPageFault (r₁ .answer) ≡ true → GoesAsFar (given .pages) pages₂ bytes₂ r₁ r₂ (after set more (r₁ .count)))

@@ -1,21 +1,18 @@
 -- Demand 3 for the permission bits (docs/RULES.md, "Two runs side by side"): more rights never alter an answer already given. Assumes nothing.
 use Prim.Native.Nat.{ℕ, _+_, _≤_}
 use mathlib.Core.Path.{_≡_}
-use mathlib.Core.Bool.{Bool, true, false, not, cond, _&&_}
-use mathlib.Core.List.{List}
-use lib.ListN.{length}
+use mathlib.Core.Bool.{Bool, true, false, not, _&&_}
 use lib.Dec.{eqb}
-use Rattle.memory.specs.Access.{lookupOf}
 use Rattle.answers.specs.Answer.{reportOf}
 use Rattle.processor.specs.Prog.{Step}
 use Rattle.processor.specs.State.{usable, permitted}
 use Rattle.answers.specs.declared.answer.Answer.{Answer}
 use Rattle.processor.specs.declared.state.State.{State}
-use Rattle.instructions.specs.Instruction.{instructionAt, isWrss}
+use Rattle.instructions.specs.Operation.{decoded, isWrss}
 use Rattle.instructions.specs.Permission.{withoutWrite}
 use Rattle.processor.specs.Layout.{withCet}
 use Rattle.perform.specs.Exec.{InstructionSet}
-use Rattle.replay.specs.Run.{Run, run, after}
+use Rattle.replay.specs.Run.{Input, listed, withState, Run, run, after}
 use Rattle.instructions.specs.declared.instruction.Instruction.{Instruction}
 
 -- a CET register with bit 1 set where this is asked
@@ -31,10 +28,10 @@ granted user supervisor s = withCet s (switchedOn user (s .ucet)) (switchedOn su
 abbrev pub isUd : Answer → Bool
 isUd answer = eqb (reportOf answer .vector) 6
 
--- A WRSS was not permitted (the papers' term): outside mode 0 and while enabled, code 5 or 6 gave #UD, and WR_SHSTK_EN of this CPL is
+-- A WRSS was not permitted (the papers' term): outside mode 0 and while enabled, it gave #UD, and WR_SHSTK_EN of this CPL is
 -- clear. `i` is the instruction that the run ended at; the run's state is the one from before it.
 unfoldable pub notPermitted : Run → Instruction → Bool
-notPermitted r i = isUd (r .answer) && (isWrss i && (usable (r .state) && not (permitted (r .state))))
+notPermitted r i = isUd (r .answer) && (isWrss (decoded (i .code)) && (usable (r .state) && not (permitted (r .state))))
 
 -- the second run is the first but for those bits
 pub record AlikeButBits (user supervisor : Bool) (r₁ r₂ : Run) : Type 0 where
@@ -49,11 +46,11 @@ pub record AlikeBefore (user supervisor : Bool) (r₁ r₂ : Run) (then₂ : Ste
   pub bytes : then₂ .bytes ≡ r₁ .bytes
   pub registers : then₂ .state ≡ granted user supervisor (r₁ .state)
 
--- Any instruction set, any state, any words, any page list and bytes, valid or not.
+-- Any instruction set, any input, valid or not.
 abbrev pub MoreRights : Type 0
-MoreRights = (set : InstructionSet) (user supervisor : Bool) (s : State) (words pages bytes : List ℕ)
-    → let r₁ : Run = run set pages s bytes words in
-    let r₂ : Run = run set pages (granted user supervisor s) bytes words in
-    (notPermitted r₁ (instructionAt words (r₁ .count)) ≡ false → AlikeButBits user supervisor r₁ r₂)
-    × (notPermitted r₁ (instructionAt words (r₁ .count)) ≡ true
-    → AlikeBefore user supervisor r₁ r₂ (after set (lookupOf pages bytes) (instructionAt words) (r₁ .count) (granted user supervisor s) bytes))
+MoreRights = (set : InstructionSet) (user supervisor : Bool) (given : Input)
+    → let more : Input = withState given (granted user supervisor (given .state)) in
+    let r₁ : Run = run set given in
+    let r₂ : Run = run set more in
+    (notPermitted r₁ (listed given (r₁ .count)) ≡ false → AlikeButBits user supervisor r₁ r₂)
+    × (notPermitted r₁ (listed given (r₁ .count)) ≡ true → AlikeBefore user supervisor r₁ r₂ (after set more (r₁ .count)))

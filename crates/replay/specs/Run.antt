@@ -1,4 +1,4 @@
--- Whole runs: what is checkBy before any step, the steps, and where they end (docs/RULES.md, "Refusals and answers"). Assumes nothing.
+-- Whole runs: what is tested before any step, the steps, and where they end (docs/RULES.md, "Refusals and answers"). Assumes nothing.
 use Prim.Native.Nat.{ℕ, zero, suc, _*_, _/_, _%_}
 use mathlib.Core.Bool.{Bool, not, cond, _||_}
 use mathlib.Core.List.{List}
@@ -46,14 +46,17 @@ listed given = instructionAt (given .words)
 abbrev pub listedCount : Input → ℕ
 listedCount given = length (given .words) / 4
 
--- the same but for the state, and but for the pages and their bytes
+-- the same but for the state, but for the pages and their bytes, and but for the words
 abbrev pub withState : Input → State → Input
 withState given s = record { state = s; pages = given .pages; bytes = given .bytes; words = given .words }
 
 abbrev pub withPages : Input → List ℕ → List ℕ → Input
 withPages given pages bytes = record { state = given .state; pages = pages; bytes = bytes; words = given .words }
 
--- ---- what is checkBy before any step
+abbrev pub withWords : Input → List ℕ → Input
+withWords given words = record { state = given .state; pages = given .pages; bytes = given .bytes; words = words }
+
+-- ---- what is tested before any step
 
 -- the most instructions
 abbrev pub instructionLimit : ℕ
@@ -63,7 +66,7 @@ instructionLimit = 1024
 unfoldable pub badWords : ℕ → Bool
 badWords words = not (eqb (words % 4) 0) || ltb instructionLimit (words / 4)
 
--- refusals 1 to 4 of the page list, then what is checkBy after them
+-- refusals 1 to 4 of the page list, then what is tested after them
 abbrev pub afterPages : Listing → Tested → Tested
 afterPages Valid rest = rest
 afterPages BadLength rest = Failed Length

@@ -11,9 +11,9 @@ use Rattle.answers.specs.declared.answer.Answer.{Answer}
 use Rattle.answers.specs.declared.answer.Answer.the-variants.{Completed, Faulted}
 use Rattle.answers.specs.declared.answer.Fault.{Fault}
 use Rattle.answers.specs.declared.answer.Vector.the-variants.{InvalidOpcode, Protection, Page, Control}
+use Rattle.processor.specs.Layout.{stateOf}
 use Rattle.processor.specs.declared.state.State.{State}
-use Rattle.perform.specs.Codes.{codes}
-use Rattle.replay.specs.Run.{Run, run}
+use Rattle.replay.specs.Run.{Input, Run, replayed}
 
 -- ---- what a row is made of
 
@@ -77,9 +77,13 @@ withWords pages (word ∷ rest) bytes = withWords pages rest (laidOver (placeIn 
 unfoldable pub lentBytes : Row → List ℕ
 lentBytes row = withWords (row .pages) (row .holds) (replicate (4096 * length (row .pages)) 0)
 
--- what a row's run gives, by the definitions that the contract of `run` cites
+-- what a row's run is given
+abbrev pub givenBy : Row → Input
+givenBy row = record { state = row .state; pages = row .pages; bytes = lentBytes row; words = row .words }
+
+-- what it gives, by the definitions that the contract of `run` cites
 unfoldable pub result : Row → Run
-result row = run codes (row .pages) (row .state) (lentBytes row) (row .words)
+result row = replayed (givenBy row)
 
 -- what a row expects
 unfoldable pub expected : Row → Run
@@ -91,13 +95,17 @@ expected row = record { count = row .count; answer = row .answer; state = row .a
 abbrev pub threePages : List ℕ
 threePages = 0x1001 ∷ 0x2001 ∷ 0x5003 ∷ []
 
+-- the one place where rows write a state down, in the order of the rules; a field that is not named here is 0
+abbrev pub stateIn : (mode cpl cet ucet scet ip sp ssp flags limit : ℕ) → State
+stateIn mode cpl cet ucet scet ip sp ssp flags limit = stateOf (mode ∷ cpl ∷ cet ∷ ucet ∷ scet ∷ ip ∷ sp ∷ ssp ∷ flags ∷ limit ∷ [])
+
 -- CPL 3 with CR4.CET 1 and S_CET 0
-abbrev pub stateOf : (mode ucet ip sp ssp flags : ℕ) → State
-stateOf mode ucet ip sp ssp flags = record { mode = mode; cpl = 3; cet = 1; ucet = ucet; scet = 0; ip = ip; sp = sp; ssp = ssp; flags = flags; limit = 0xffff_ffff }
+abbrev pub user : (mode ucet ip sp ssp flags : ℕ) → State
+user mode ucet ip sp ssp flags = stateIn mode 3 1 ucet 0 ip sp ssp flags 0xffff_ffff
 
 -- mode 2 with U_CET 1
 abbrev pub long : (ip ssp flags : ℕ) → State
-long ip ssp flags = stateOf 2 1 ip 0x5010 ssp flags
+long ip ssp flags = user 2 1 ip 0x5010 ssp flags
 
 -- the four words of an instruction, which is 5 bytes long
 abbrev pub incsspq : ℕ → List ℕ
@@ -211,8 +219,8 @@ p9Forbidden = faults (long 0x40_0000 0x1ff0 0) [] (wrssd 0x2ff4 0x8877_6655_4433
 
 -- P9. With it the low 4 bytes of the value are written, and no more.
 abbrev pub p9Written : Row
-p9Written = completes 1 (stateOf 2 3 0x40_0000 0x5010 0x1ff0 0) [] (wrssd 0x2ff4 0x8877_6655_4433_2211)
-    (stateOf 2 3 0x40_0005 0x5010 0x1ff0 0) (dword 0x2ff4 0x4433_2211 ∷ [])
+p9Written = completes 1 (user 2 3 0x40_0000 0x5010 0x1ff0 0) [] (wrssd 0x2ff4 0x8877_6655_4433_2211)
+    (user 2 3 0x40_0005 0x5010 0x1ff0 0) (dword 0x2ff4 0x4433_2211 ∷ [])
 
 -- P9. Then 8 bytes at the same address, which 8 does not divide: what was written before stands.
 abbrev pub p9Aligned : Row
@@ -220,14 +228,14 @@ p9Aligned = thenFaults p9Written (wrssq 0x2ff4 0x8877_6655_4433_2211) (faultOf P
 
 -- P9. An ordinary page is listed, but it is no shadow stack.
 abbrev pub p9Ordinary : Row
-p9Ordinary = faults (stateOf 2 3 0x40_0000 0x5010 0x1ff0 0) [] (wrssd 0x5000 0x8877_6655_4433_2211) (faultOf Page 0 0x5000)
+p9Ordinary = faults (user 2 3 0x40_0000 0x5010 0x1ff0 0) [] (wrssd 0x5000 0x8877_6655_4433_2211) (faultOf Page 0 0x5000)
 
 -- ---- CALL
 
 -- P10. The address after the call goes on both stacks, and both pointers move.
 abbrev pub p10 : Row
 p10 = completes 1 (long 0x40_0000 0x1ff0 0) (qword 0x5008 0x1122_3344_5566_7788 ∷ qword 0x1fe8 0x1122_3344_5566_7788 ∷ []) (callRelative 0x10)
-    (stateOf 2 1 0x40_0015 0x5008 0x1fe8 0) (qword 0x5008 0x40_0005 ∷ qword 0x1fe8 0x40_0005 ∷ [])
+    (user 2 1 0x40_0015 0x5008 0x1fe8 0) (qword 0x5008 0x40_0005 ∷ qword 0x1fe8 0x40_0005 ∷ [])
 
 -- P11. The lowest target that is not canonical.
 abbrev pub p11 : Row
@@ -241,25 +249,25 @@ p12 = faults (long 0x40_0000 0x1004 0) (qword 0x5008 0x1122_3344_5566_7788 ∷ [
 
 -- P13. Mode 1 pops the hole: 8 bytes of token, then 4 of zero and no more. CF stays, and the token that is left has bit 0 clear.
 abbrev pub p13 : Row
-p13 = completes 1 (stateOf 1 1 0x40_0000 0x5010 0x2fe0 1) (qword 0x2fe0 0x1ff2 ∷ dword 0x2fe8 0 ∷ dword 0x2fec 0xffff_ffff ∷ qword 0x1fe8 0x1122_3344_5566_7788 ∷ []) saveprevssp
-    (stateOf 1 1 0x40_0005 0x5010 0x2fec 1) (qword 0x1fe8 0x1ff0 ∷ [])
+p13 = completes 1 (user 1 1 0x40_0000 0x5010 0x2fe0 1) (qword 0x2fe0 0x1ff2 ∷ dword 0x2fe8 0 ∷ dword 0x2fec 0xffff_ffff ∷ qword 0x1fe8 0x1122_3344_5566_7788 ∷ []) saveprevssp
+    (user 1 1 0x40_0005 0x5010 0x2fec 1) (qword 0x1fe8 0x1ff0 ∷ [])
 
 -- ---- CALL of the next instruction
 
 -- P14. By displacement 0: the address goes on the ordinary stack alone. SSP stays, and so does what lies below it.
 abbrev pub p14 : Row
 p14 = completes 1 (long 0x40_0000 0x1ff0 0) (qword 0x5008 0x1122_3344_5566_7788 ∷ qword 0x1fe8 0x1122_3344_5566_7788 ∷ []) (callRelative 0)
-    (stateOf 2 1 0x40_0005 0x5008 0x1ff0 0) (qword 0x5008 0x40_0005 ∷ [])
+    (user 2 1 0x40_0005 0x5008 0x1ff0 0) (qword 0x5008 0x40_0005 ∷ [])
 
 -- P15. By its address: a call like any other, which goes on both stacks.
 abbrev pub p15 : Row
 p15 = completes 1 (long 0x40_0000 0x1ff0 0) (qword 0x5008 0x1122_3344_5566_7788 ∷ qword 0x1fe8 0x1122_3344_5566_7788 ∷ []) (callAbsolute 0x40_0005)
-    (stateOf 2 1 0x40_0005 0x5008 0x1fe8 0) (qword 0x5008 0x40_0005 ∷ qword 0x1fe8 0x40_0005 ∷ [])
+    (user 2 1 0x40_0005 0x5008 0x1fe8 0) (qword 0x5008 0x40_0005 ∷ qword 0x1fe8 0x40_0005 ∷ [])
 
 -- P16. Half of the frame would lie on no page. With displacement 0 no frame is tried; by the address it is.
 abbrev pub p16Relative : Row
 p16Relative = completes 1 (long 0x40_0000 0x1004 0) (qword 0x5008 0x1122_3344_5566_7788 ∷ []) (callRelative 0)
-    (stateOf 2 1 0x40_0005 0x5008 0x1004 0) (qword 0x5008 0x40_0005 ∷ [])
+    (user 2 1 0x40_0005 0x5008 0x1004 0) (qword 0x5008 0x40_0005 ∷ [])
 
 abbrev pub p16Absolute : Row
 p16Absolute = faults (long 0x40_0000 0x1004 0) [] (callAbsolute 0x40_0005) (faultOf Page 0 0xffc)
@@ -267,31 +275,31 @@ p16Absolute = faults (long 0x40_0000 0x1004 0) [] (callAbsolute 0x40_0005) (faul
 -- P17. The frame would lie at the lowest address that is not canonical: no fault with displacement 0, #GP by the address.
 abbrev pub p17Relative : Row
 p17Relative = completes 1 (long 0x40_0000 0x0000_8000_0000_0008 0) (qword 0x5008 0x1122_3344_5566_7788 ∷ []) (callRelative 0)
-    (stateOf 2 1 0x40_0005 0x5008 0x0000_8000_0000_0008 0) (qword 0x5008 0x40_0005 ∷ [])
+    (user 2 1 0x40_0005 0x5008 0x0000_8000_0000_0008 0) (qword 0x5008 0x40_0005 ∷ [])
 
 abbrev pub p17Absolute : Row
 p17Absolute = faults (long 0x40_0000 0x0000_8000_0000_0008 0) [] (callAbsolute 0x40_0005) (faultOf Protection 0 0)
 
 -- P18. Mode 1: both pushes have 4 bytes, and the frame would lie on no page. No fault with displacement 0, #PF by the address.
 abbrev pub p18Relative : Row
-p18Relative = completes 1 (stateOf 1 1 0x40_0000 0x5010 0x1000 0) (qword 0x5008 0x1122_3344_5566_7788 ∷ []) (callRelative 0)
-    (stateOf 1 1 0x40_0005 0x500c 0x1000 0) (dword 0x500c 0x40_0005 ∷ [])
+p18Relative = completes 1 (user 1 1 0x40_0000 0x5010 0x1000 0) (qword 0x5008 0x1122_3344_5566_7788 ∷ []) (callRelative 0)
+    (user 1 1 0x40_0005 0x500c 0x1000 0) (dword 0x500c 0x40_0005 ∷ [])
 
 abbrev pub p18Absolute : Row
-p18Absolute = faults (stateOf 1 1 0x40_0000 0x5010 0x1000 0) [] (callAbsolute 0x40_0005) (faultOf Page 0 0xffc)
+p18Absolute = faults (user 1 1 0x40_0000 0x5010 0x1000 0) [] (callAbsolute 0x40_0005) (faultOf Page 0 0xffc)
 
 -- P19. What looks like displacement 0 and is not: only the sign bit set, only bits above 15 set, and an address of 0. All make a frame.
 abbrev pub p19Sign : Row
 p19Sign = completes 1 (long 0x40_0000 0x1ff0 0) [] (callRelative 0x8000_0000)
-    (stateOf 2 1 0xffff_ffff_8040_0005 0x5008 0x1fe8 0) (qword 0x5008 0x40_0005 ∷ qword 0x1fe8 0x40_0005 ∷ [])
+    (user 2 1 0xffff_ffff_8040_0005 0x5008 0x1fe8 0) (qword 0x5008 0x40_0005 ∷ qword 0x1fe8 0x40_0005 ∷ [])
 
 abbrev pub p19High : Row
 p19High = completes 1 (long 0x40_0000 0x1ff0 0) [] (callRelative 0x1_0000)
-    (stateOf 2 1 0x41_0005 0x5008 0x1fe8 0) (qword 0x5008 0x40_0005 ∷ qword 0x1fe8 0x40_0005 ∷ [])
+    (user 2 1 0x41_0005 0x5008 0x1fe8 0) (qword 0x5008 0x40_0005 ∷ qword 0x1fe8 0x40_0005 ∷ [])
 
 abbrev pub p19Address : Row
 p19Address = completes 1 (long 0x40_0000 0x1ff0 0) [] (callAbsolute 0)
-    (stateOf 2 1 0 0x5008 0x1fe8 0) (qword 0x5008 0x40_0005 ∷ qword 0x1fe8 0x40_0005 ∷ [])
+    (user 2 1 0 0x5008 0x1fe8 0) (qword 0x5008 0x40_0005 ∷ qword 0x1fe8 0x40_0005 ∷ [])
 
 -- ---- all of them
 

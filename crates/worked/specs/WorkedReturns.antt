@@ -7,7 +7,7 @@ use Rattle.answers.specs.declared.answer.Answer.the-variants.{Refused}
 use Rattle.answers.specs.declared.answer.Refusal.the-variants.{Instruction as BadForm}
 use Rattle.answers.specs.declared.answer.Vector.the-variants.{InvalidOpcode, Stack, Protection, Page, Control}
 use Rattle.processor.specs.declared.state.State.{State}
-use Rattle.worked.specs.Worked.{Row, dword, qword, result, expected, threePages, stateOf, long, callRelative, completes, faults}
+use Rattle.worked.specs.Worked.{Row, dword, qword, result, expected, threePages, stateIn, user, long, callRelative, completes, faults}
 
 -- ---- the words that rows are written in
 
@@ -27,7 +27,7 @@ wrussq a b = 12 ∷ 5 ∷ a ∷ b ∷ []
 
 -- U_CET 0
 abbrev pub stateAt : (mode cpl cet scet ip : ℕ) → State
-stateAt mode cpl cet scet ip = record { mode = mode; cpl = cpl; cet = cet; ucet = 0; scet = scet; ip = ip; sp = 0x5010; ssp = 0x1ff0; flags = 0; limit = 0xffff_ffff }
+stateAt mode cpl cet scet ip = stateIn mode cpl cet 0 scet ip 0x5010 0x1ff0 0 0xffff_ffff
 
 -- mode 2 at this CPL, with SH_STK_EN and WR_SHSTK_EN clear for all
 abbrev pub bare : (cpl cet ip : ℕ) → State
@@ -39,7 +39,7 @@ inMode mode = stateAt mode 0 1 0 0x40_0000
 
 -- mode 1 with U_CET 1 and this code limit
 abbrev pub limited : (limit ip sp ssp : ℕ) → State
-limited limit ip sp ssp = record { mode = 1; cpl = 3; cet = 1; ucet = 1; scet = 0; ip = ip; sp = sp; ssp = ssp; flags = 0; limit = limit }
+limited limit ip sp ssp = stateIn 1 3 1 1 0 ip sp ssp 0 limit
 
 -- refusal 6, and nothing changes
 abbrev pub refuses : State → List ℕ → Row
@@ -56,7 +56,7 @@ r1 = completes 2 (long 0x40_0000 0x1ff0 0) [] (callRelative 0x10 ++ ret)
 -- R2. The count moves SP besides, here off the pages: the bytes that it releases are not looked at. SSP moves by the frame alone.
 abbrev pub r2 : Row
 r2 = completes 2 (long 0x40_0000 0x1ff0 0) [] (callRelative 0x10 ++ retCount 0xffff)
-    (stateOf 2 1 0x40_0005 0x1_500f 0x1ff0 0) (qword 0x5008 0x40_0005 ∷ qword 0x1fe8 0x40_0005 ∷ [])
+    (user 2 1 0x40_0005 0x1_500f 0x1ff0 0) (qword 0x5008 0x40_0005 ∷ qword 0x1fe8 0x40_0005 ∷ [])
 
 -- R3. The return address was overwritten. That it is not canonical either is not found: the comparison comes before the target's test.
 abbrev pub r3 : Row
@@ -68,7 +68,7 @@ r4 = faults (long 0x40_0000 0x1ff0 0) (qword 0x5010 0x0000_8000_0000_0000 ∷ qw
 
 -- R5. Neither stack is there: the ordinary load is the first.
 abbrev pub r5 : Row
-r5 = faults (stateOf 2 1 0x40_0000 0x6000 0x3000 0) [] ret (faultOf Page 0 0x6000)
+r5 = faults (user 2 1 0x40_0000 0x6000 0x3000 0) [] ret (faultOf Page 0 0x6000)
 
 -- R6. The shadow stack is not there, and the target would not do: the shadow load is before the target's test.
 abbrev pub r6 : Row
@@ -76,13 +76,13 @@ r6 = faults (long 0x40_0000 0x3000 0) (qword 0x5010 0x0000_8000_0000_0000 ∷ []
 
 -- R7. Not enabled: the shadow stack is not looked at, and SSP stays.
 abbrev pub r7 : Row
-r7 = completes 1 (stateOf 2 0 0x40_0000 0x5010 0x3000 0) (qword 0x5010 0x40_0005 ∷ []) ret
-    (stateOf 2 0 0x40_0005 0x5018 0x3000 0) []
+r7 = completes 1 (user 2 0 0x40_0000 0x5010 0x3000 0) (qword 0x5010 0x40_0005 ∷ []) ret
+    (user 2 0 0x40_0005 0x5018 0x3000 0) []
 
 -- R8. Mode 1 pops 4 bytes of each stack; those behind them differ.
 abbrev pub r8 : Row
-r8 = completes 1 (stateOf 1 1 0x40_0000 0x5010 0x1ff0 0) (qword 0x5010 0x1111_1111_0040_0005 ∷ qword 0x1ff0 0x2222_2222_0040_0005 ∷ []) (retCount 8)
-    (stateOf 1 1 0x40_0005 0x501c 0x1ff4 0) []
+r8 = completes 1 (user 1 1 0x40_0000 0x5010 0x1ff0 0) (qword 0x5010 0x1111_1111_0040_0005 ∷ qword 0x1ff0 0x2222_2222_0040_0005 ∷ []) (retCount 8)
+    (user 1 1 0x40_0005 0x501c 0x1ff4 0) []
 
 -- ---- WRUSS
 
@@ -110,13 +110,13 @@ r12 = faults (bare 3 0 0x40_0000) [] (wrussq 0x2ff4 1) (faultOf InvalidOpcode 0 
 
 -- R13. The ordinary load must be canonical in mode 2; in mode 1 it may end at 2^32, and then only the page is missing, but not run past it.
 abbrev pub r13Canonical : Row
-r13Canonical = faults (stateOf 2 1 0x40_0000 0x7fff_ffff_fffc 0x1ff0 0) [] ret (faultOf Stack 0 0)
+r13Canonical = faults (user 2 1 0x40_0000 0x7fff_ffff_fffc 0x1ff0 0) [] ret (faultOf Stack 0 0)
 
 abbrev pub r13Past : Row
-r13Past = faults (stateOf 1 1 0x40_0000 0xffff_fffd 0x1ff0 0) [] ret (faultOf Stack 0 0)
+r13Past = faults (user 1 1 0x40_0000 0xffff_fffd 0x1ff0 0) [] ret (faultOf Stack 0 0)
 
 abbrev pub r13End : Row
-r13End = faults (stateOf 1 1 0x40_0000 0xffff_fffc 0x1ff0 0) [] ret (faultOf Page 0 0xffff_fffc)
+r13End = faults (user 1 1 0x40_0000 0xffff_fffc 0x1ff0 0) [] ret (faultOf Page 0 0xffff_fffc)
 
 -- R14. In mode 1 the target may be the code limit, and not above it.
 abbrev pub r14Limit : Row
