@@ -11,7 +11,8 @@ use lib.Dec.{ltb, leb}
 use borrow.Author.Tests.{leb-true, leb-false, le-leb, le-ltb, lt-ltb}
 use Rattle.pages.specs.Address.{plus, canonical}
 use Rattle.pages.specs.Pages.{Lookup, pageBytes, pageOf, kindOf, onPage, inPage, spotFrom, spot}
-use Rattle.memory.specs.Access.{lookupOf, kindNumber, byteCount, andThen, scan, canonicalByte, listedByte, start, canonicalBytes, listedBytes, probe, byteIn, number, value, load, write, written, store}
+use Rattle.memory.specs.Access.{lookupOf, kindNumber, byteCount, andThen, scan, canonicalByte, listedByte, start, canonicalBytes, listedBytes, probe}
+use Rattle.memory.specs.Access.{byteIn, number, value, load, write, written, store}
 use Rattle.memory.specs.OnePage.{onePage, further, OnLentPage, locatedIf, within, located, firstReach, firstLocated, numberAt, putAt, onLentPage, storeAt}
 use Rattle.pages.specs.declared.address.Width.{Width}
 use Rattle.pages.specs.declared.address.Width.the-variants.{Bits32, Bits64}
@@ -131,7 +132,8 @@ scan-all test w address (suc n) at each =
     (scan-all test w (plus w address 1) n (wrapped-plus w address 1) (λ i h. ap test (one-on w address i) ∙ each (suc i) (omega arith)))
 
 -- where the first byte being ready means that every byte is, the first decides
-scan-first : (test : ℕ → Reach) (w : Width) (address n : ℕ) → Wrapped w address → 0 < n → ((i : ℕ) → i < n → test address ≡ Ready → test (plus w address i) ≡ Ready) → scan test w address n ≡ test address
+scan-first : (test : ℕ → Reach) (w : Width) (address n : ℕ) → Wrapped w address → 0 < n → ((i : ℕ) → i < n → test address ≡ Ready → test (plus w address i) ≡ Ready)
+    → scan test w address n ≡ test address
 scan-first test w address n at more each = go (test address) refl
   where
     go : (r : Reach) → test address ≡ r → scan test w address n ≡ r
