@@ -66,6 +66,7 @@ module _ (look : Lookup) (bytes : List ℕ) (target : ℕ) (framed : Bool) (span
       not-pushed a failure e = faults look _ s bytes _ (past-tests ∙ none-stored look (done called) (pushes framed span s) bytes a failure e)
 
       pub pushed-all : tryAll look (pushes framed span s) ≡ AllStored
-          → operate look (call target framed span s) s bytes ≡ stepOf (completed (withSsp (withSp s (newSp s)) (frameOf s framed (next s span) .ssp)) target) (writtenAll look (pushes framed span s) bytes)
+          → operate look (call target framed span s) s bytes
+          ≡ stepOf (completed (withSsp (withSp s (newSp s)) (frameOf s framed (next s span) .ssp)) target) (writtenAll look (pushes framed span s) bytes)
       unfolding interp
       pushed-all e = completes look _ s bytes _ _ (past-tests ∙ all-stored look (done called) (pushes framed span s) bytes e)

@@ -9,6 +9,7 @@ use memory::Size;
 use processor::Outcome;
 use processor::State;
 use processor::Vector;
+use stores::SLOTS;
 use stores::Slot;
 use stores::Stored;
 
@@ -135,7 +136,7 @@ pub fn execute(
     let next = state.next(span);
     let frame = make_frame(state, framed, next);
     let slot = frame.slot;
-    let mut slots = [Slot::Empty; 8];
+    let mut slots = [Slot::Empty; SLOTS];
     slots[0] = Slot::Store(state.ordinary(sp, size, true), next);
     slots[1] = slot;
     match stores::store_all(slots, pages, bytes) {

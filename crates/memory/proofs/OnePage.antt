@@ -11,7 +11,8 @@ use lib.Dec.{ltb, leb}
 use borrow.Author.Tests.{leb-true, leb-false, le-leb, le-ltb, lt-ltb}
 use Rattle.pages.specs.Address.{plus, canonical}
 use Rattle.pages.specs.Pages.{Lookup, pageBytes, pageOf, kindOf, onPage, inPage, spotFrom, spot}
-use Rattle.memory.specs.Access.{lookupOf, kindNumber, byteCount, andThen, scan, canonicalByte, listedByte, start, canonicalBytes, listedBytes, probe, byteIn, number, value, load, write, written, store}
+use Rattle.memory.specs.Access.{lookupOf, kindNumber, byteCount, andThen, scan, canonicalByte, listedByte, start, canonicalBytes, listedBytes, probe}
+use Rattle.memory.specs.Access.{byteIn, number, value, load, write, written, store}
 use Rattle.memory.specs.OnePage.{onePage, further, OnLentPage, locatedIf, within, located, firstReach, firstLocated, numberAt, putAt, onLentPage, storeAt}
 use Rattle.pages.specs.declared.address.Width.{Width}
 use Rattle.pages.specs.declared.address.Width.the-variants.{Bits32, Bits64}

@@ -26,13 +26,13 @@ pub enum Size {
 // A load or a store, before it is done. No answer of this crate depends on `store` or `user`; a page fault's error code reports
 // them, and an access through a gate is made with the privilege of its moment.
 pub struct Access {
+    // The first byte's address. The others follow, and wrap at the width.
+    pub first: u64,
     pub kind: Kind,
     // Whether it counts as a store: a locked load does.
     pub store: bool,
     // Whether it is made with user privilege.
     pub user: bool,
-    // The first byte's address. The others follow, and wrap at the width.
-    pub first: u64,
     pub size: Size,
     pub width: Width,
     // Whether every byte's address must be canonical.

@@ -80,7 +80,8 @@ module _ (look : Lookup) (bytes : List ℕ) (token span : ℕ) (s : State) where
       unfolding leaveToken _>>=_ putAll
       past-checks = continues look _ (newTop s (plus s (s .ssp) 8)) bytes top bytes t ∙ passed look bytes (savedToken s token) gp _ saved
 
-      pub not-left : (a : Access) (failure : Failure) → tryAll look (leftStores token s) ≡ NoneStored a failure → operate look (leaveToken token span s) s bytes ≡ stepOf (faulted s (blame a failure)) bytes
+      pub not-left : (a : Access) (failure : Failure) → tryAll look (leftStores token s) ≡ NoneStored a failure
+          → operate look (leaveToken token span s) s bytes ≡ stepOf (faulted s (blame a failure)) bytes
       not-left a failure e = faults look _ s bytes _ (past-checks ∙ none-stored look _ (leftStores token s) bytes a failure e)
 
       pub left-behind : tryAll look (leftStores token s) ≡ AllStored

@@ -6,7 +6,7 @@ use mathlib.Core.Bool.{Bool, true, false}
 use mathlib.Core.List.{List, [], _∷_}
 use native.Mathlib.Numerals.{add-one}
 use native.Mathlib.Omega.{arith}
-use lib.ListN.{length, getD, set, drop, replicate, length-set, length-replicate, getD-replicate, drop-of-length-le}
+use lib.ListN.{length, getD, set, drop, replicate, length-set, getD-replicate, drop-of-length-le}
 use lib.Seq.{getD-set-same, getD-set-other}
 use lib.Dec.{eqb}
 use borrow.Author.Tests.{eqb-true, eqb-false}
@@ -20,7 +20,7 @@ use Rattle.memory.specs.declared.access.Reach.the-variants.{Ready as Reached, B
 use Rattle.memory.specs.declared.one_page.Located.the-variants.{Within, Across, Blocked as Unreached}
 use Rattle.memory.proofs.Laws.{told, lookup-kept, length-written}
 use Rattle.stores.specs.Stores.{orElse, tryAll, writtenAll}
-use Rattle.stores.specs.Places.{noPlace, Lies, Noted, Ready}
+use Rattle.stores.specs.Places.{noPlace, Lies, Ready}
 use Rattle.stores.specs.declared.Slot.{Slot}
 use Rattle.stores.specs.declared.Slot.the-variants.{Empty, Store}
 use Rattle.stores.specs.declared.Stored.{Stored}
@@ -44,7 +44,8 @@ try-from look (Empty ∷ rest) zero = refl
 try-from look (Store a v ∷ rest) zero = refl
 try-from look (slot ∷ rest) (suc i) = try-from look rest i
 
-write-from : (look : Lookup) (slots : List Slot) (i : ℕ) (bytes : List ℕ) → writtenAll look (drop i slots) bytes ≡ writeFirst look (getD slots i Empty) (writtenAll look (drop (suc i) slots)) bytes
+write-from : (look : Lookup) (slots : List Slot) (i : ℕ) (bytes : List ℕ)
+    → writtenAll look (drop i slots) bytes ≡ writeFirst look (getD slots i Empty) (writtenAll look (drop (suc i) slots)) bytes
 unfolding writtenAll
 write-from look [] zero bytes = refl
 write-from look [] (suc i) bytes = refl
@@ -54,11 +55,16 @@ write-from look (slot ∷ rest) (suc i) bytes = write-from look rest i bytes
 
 -- ---- places noted
 
--- nothing is noted at first
-pub nothing-noted : (look : Lookup) (slots : List Slot) (n : ℕ) → Noted look slots (replicate n noPlace)
-nothing-noted look slots n = record { each = λ i v a among there known. absurd (known (getD-replicate n i noPlace 0 (rw length-replicate at among))) }
+-- how many slots a list has
+abbrev pub slotCount : ℕ
+slotCount = 8
 
-note : (look : Lookup) (slots : List Slot) (places : List ℕ) (i : ℕ) (a : Access) (v place : ℕ) → getD slots i Empty ≡ Store a v → located look a ≡ Within place → Noted look slots places → Noted look slots (set places i place)
+-- every place that was noted is the one at which the slot's store lies
+pub record Noted (look : Lookup) (slots : List Slot) (places : List ℕ) : Type 0 where
+  pub each : (i v : ℕ) (a : Access) → i < length places → getD slots i Empty ≡ Store a v → Lies look a (getD places i 0)
+
+note : (look : Lookup) (slots : List Slot) (places : List ℕ) (i : ℕ) (a : Access) (v place : ℕ) → getD slots i Empty ≡ Store a v → located look a ≡ Within place
+    → Noted look slots places → Noted look slots (set places i place)
 note look slots places i a v place here lies noted = record { each = λ j u b among there. go j u b (rw length-set at among) there (eqb j i) refl }
   where
     go : (j u : ℕ) (b : Access) → j < length places → getD slots j Empty ≡ Store b u → (t : Bool) → eqb j i ≡ t → Lies look b (getD (set places i place) j 0)
@@ -75,6 +81,15 @@ note look slots places i a v place here lies noted = record { each = λ j u b am
 pub record Trying (look : Lookup) (slots : List Slot) (places : List ℕ) (i : ℕ) : Type 0 where
   pub rest : tryAll look slots ≡ tryAll look (drop i slots)
   pub noted : Noted look slots places
+  pub room : length places ≡ slotCount
+
+-- nothing is noted at first
+pub trying-starts : (look : Lookup) (slots : List Slot) → Trying look slots (replicate slotCount noPlace) 0
+trying-starts look slots = record {
+  rest = refl;
+  noted = record { each = λ i v a among there known. absurd (known (getD-replicate slotCount i noPlace 0 among)) };
+  room = refl;
+}
 
 module _ {look : Lookup} {slots : List Slot} {places : List ℕ} {i : ℕ} (trying : Trying look slots places i) where
   pub tried-to-end : getD slots i Empty ≡ Empty → AllStored ≡ tryAll look slots
@@ -95,20 +110,28 @@ module _ {look : Lookup} {slots : List Slot} {places : List ℕ} {i : ℕ} (tryi
     tried-within {place} e set-there = record {
       rest = next (told look a (Within place) e .ready);
       noted = rw set-there (note look slots places i a v place here (sym e) (trying .noted));
+      room = rw (set-there, length-set) (trying .room);
     }
 
     pub tried-across : {after : List ℕ} → Across ≡ located look a → after ≡ places → Trying look slots after (i + 1)
-    tried-across e same = record { rest = next (told look a Across e); noted = rw same (trying .noted) }
+    tried-across e same = record { rest = next (told look a Across e); noted = rw same (trying .noted); room = rw same (trying .room) }
 
 -- ---- making them
 
--- The bytes that all leave are those that they leave from a slot on, where all can be made; and no byte was added or lost, so that addresses lead
--- where they led at first.
+-- All can be made, and the bytes that they leave are those that they leave from a slot on; no byte was added or lost, so that addresses lead where
+-- they led at first.
 pub record Making (pages lent : List ℕ) (slots : List Slot) (places : List ℕ) (bytes : List ℕ) (i : ℕ) : Type 0 where
   pub rest : writtenAll (lookupOf pages lent) slots lent ≡ writtenAll (lookupOf pages lent) (drop i slots) bytes
+  pub all : AllStored ≡ tryAll (lookupOf pages lent) slots
   pub can : tryAll (lookupOf pages lent) (drop i slots) ≡ AllStored
   pub noted : Noted (lookupOf pages lent) slots places
+  pub room : length places ≡ slotCount
   pub kept : length bytes ≡ length lent
+
+-- once all were tried
+pub making-starts : {pages lent : List ℕ} {slots : List Slot} {places : List ℕ} {i : ℕ} → Trying (lookupOf pages lent) slots places i
+    → AllStored ≡ tryAll (lookupOf pages lent) slots → Making pages lent slots places lent 0
+making-starts trying all = record { rest = refl; all = all; can = sym all; noted = trying .noted; room = trying .room; kept = refl }
 
 module _ {pages lent : List ℕ} {slots : List Slot} {places bytes : List ℕ} {i : ℕ} (making : Making pages lent slots places bytes i) where
   pub made-to-end : getD slots i Empty ≡ Empty → bytes ≡ writtenAll (lookupOf pages lent) slots lent
@@ -133,8 +156,8 @@ module _ {pages lent : List ℕ} {slots : List Slot} {places bytes : List ℕ} {
         go Reached e = (refl, e)
         go (Blocked failure) e = let z : _≡_ {A = ℕ} 0 1 = cc in absurd (omega arith)
 
-    pub this-ready : i < length places → Ready (lookupOf pages bytes) a (getD places i 0)
-    this-ready among = rw (lookup-kept pages lent bytes (making .kept)) (record { can = both .0; lies = making .noted .each i v a among here })
+    pub this-ready : i < slotCount → Ready (lookupOf pages bytes) a (getD places i 0)
+    this-ready among = rw (lookup-kept pages lent bytes (making .kept)) (record { can = both .0; lies = making .noted .each i v a (rw (making .room) among) here })
 
     pub made : {after : List ℕ} → after ≡ written (lookupOf pages bytes) a v bytes → Making pages lent slots places after (i + 1)
     made {after} e =
@@ -142,7 +165,9 @@ module _ {pages lent : List ℕ} {slots : List Slot} {places bytes : List ℕ} {
         let is : after ≡ written (lookupOf pages lent) a v bytes = rw led at e in
         record {
           rest = making .rest ∙ write-from (lookupOf pages lent) slots i bytes ∙ rw (here, add-one i, is);
+          all = making .all;
           can = rw (add-one i) (both .1);
           noted = making .noted;
+          room = making .room;
           kept = rw is (length-written (lookupOf pages lent) a v bytes ∙ making .kept);
         }

@@ -22,7 +22,7 @@ fault-requires c κs = search needs
 fail-requires : tie.Need-fail-requires
 fail-requires c κs = search needs
 
--- the entry of the function, from the places that the facts below stand at
+-- the entry, from the places at which something is known
 abbrev from-test : tie.Else1 → tie.Start
 from-test c = c .before .before .before .before
 
@@ -32,7 +32,10 @@ from-minus c = from-test (c .before .before .before)
 abbrev from-stores : tie.After-store-all → tie.Start
 from-stores c = from-minus (c .before .before .before .before .before .before .before)
 
--- what is known after each test, and what the stores are
+abbrev at-test : tie.After-store-all → tie.Else1
+at-test c = c .before .before .before .before .before .before .before .before .before .before
+
+-- what is known after each test
 is-inside : (c : tie.Else1) → inCode (from-test c .args .state) (from-test c .args .target) ≡ true
 is-inside c = sym (c .before .in-code .ensures) ∙ not-false _ (c .if1 .left)
 
@@ -42,8 +45,8 @@ new-sp c = rw (c .minus .ensures, c .before .bytes .ensures, c .before .before .
 past : (c : tie.After-runs-past) → runsPast (from-minus (c .before) .args .state) (newSp (from-minus (c .before) .args .state)) ≡ c .runs-past .result
 past c = rw (← new-sp (c .before)) (sym (c .runs-past .ensures))
 
-fits : (c : tie.Else2) → runsPast (from-minus (c .before .before) .args .state) (newSp (from-minus (c .before .before) .args .state)) ≡ false
-fits c = past (c .before) ∙ c .if2 .left
+fits : (c : tie.After-store-all) → runsPast (from-stores c .args .state) (newSp (from-stores c .args .state)) ≡ false
+fits c = past (c .before .before .before .before .before .before) ∙ c .before .before .before .before .before .if2 .left
 
 -- where addresses lead, and the pushes as the definition has them
 abbrev led : tie.After-store-all → Lookup
@@ -55,7 +58,14 @@ the-pushes c = pushes (from-stores c .args .framed) (from-stores c .args .span) 
 stored : (c : tie.After-store-all) → (c .store-all .result ≡ tryAll (led c) (the-pushes c))
     × (c .store-all .last .1 .1 .0 ≡ leftBy (c .store-all .result) (writtenAll (led c) (the-pushes c) (from-stores c .args .bytes .now)) (from-stores c .args .bytes .now))
 stored c =
-    rw (c .before .before .ordinary .ensures, c .before .before .before .make-frame .ensures, c .before .before .before .before .next .ensures, new-sp (c .before .before .before .before .before .before .before), c .before .before .before .before .before .before .before .before .before .pushed .ensures) at (c .store-all .ensures)
+    rw (
+      c .before .before .ordinary .ensures,
+      c .before .before .before .make-frame .ensures,
+      c .before .before .before .before .next .ensures,
+      new-sp (c .before .before .before .before .before .before .before),
+      c .before .before .before .before .before .before .before .before .before .pushed .ensures,
+    )
+    at (c .store-all .ensures)
 
 returns : tie.Need-returns
 returns c =
@@ -123,20 +133,27 @@ same-length c = search needs
 
 returns-3 : tie.Need-returns-3
 returns-3 c =
-    let done = stored (c .before .before .before .before .before .before .before) in
+    let stores = c .before .before .before .before .before .before .before in
     let failed = c .before .before .before .access .given .1 in
-    rw (c .fail3 .ensures, c .before .blame .ensures, done .1, failed)
-    (sym (not-pushed _ _ _ _ _ _ (is-inside (c .before .before .before .before .before .before .before .before .before .before .before .before .before .before .before .before .before)) (fits (c .before .before .before .before .before .before .before .before .before .before .before .before)) _ _ (sym (done .0) ∙ failed)))
+    rw (c .fail3 .ensures, c .before .blame .ensures, stored stores .1, failed)
+    (sym (not-pushed _ _ _ _ _ _ (is-inside (at-test stores)) (fits stores) _ _ (sym (stored stores .0) ∙ failed)))
 
 same-length-2 : tie.Need-same-length-2
 same-length-2 c = search needs
 
 returns-4 : tie.Need-returns-4
 returns-4 c =
-    let done = stored (c .before .before .before .before .before) in
+    let stores = c .before .before .before .before .before in
     let all = c .before .enum-told .given .1 in
-    rw (c .transfer .ensures, new-sp (c .before .before .before .before .before .before .before .before .before .before .before .before), c .before .before .before .before .before .before .before .before .make-frame .ensures, c .before .before .before .before .before .before .before .before .before .next .ensures, done .1, all)
-    (sym (pushed-all _ _ _ _ _ _ (is-inside (c .before .before .before .before .before .before .before .before .before .before .before .before .before .before .before)) (fits (c .before .before .before .before .before .before .before .before .before .before)) (sym (done .0) ∙ all)))
+    rw (
+      c .transfer .ensures,
+      new-sp (c .before .before .before .before .before .before .before .before .before .before .before .before),
+      c .before .before .before .before .before .before .before .before .make-frame .ensures,
+      c .before .before .before .before .before .before .before .before .before .next .ensures,
+      stored stores .1,
+      all,
+    )
+    (sym (pushed-all _ _ _ _ _ _ (is-inside (at-test stores)) (fits stores) (sym (stored stores .0) ∙ all)))
 
 pub execute-spec : {M : Type 1} → statement M
 execute-spec =

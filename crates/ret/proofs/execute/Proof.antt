@@ -1,4 +1,5 @@
 -- `ret::execute` meets its contract: each return cites the way through the definition that leads to it. Assumes nothing.
+use Prim.Native.Nat.{ℕ}
 use mathlib.Core.Path.{_≡_, sym, _∙_, ap}
 use mathlib.Core.Bool.{false}
 use borrow.Author.Tests.{not-true, not-false}
@@ -6,9 +7,8 @@ use borrow.Author.Needs.{needs}
 use Rattle.pages.specs.Pages.{Lookup}
 use Rattle.memory.specs.Access.{lookupOf, load as loadAt}
 use Rattle.memory.specs.declared.access.Access.{Access}
-use Rattle.memory.specs.declared.load.Loaded.the-variants.{Value}
 use Rattle.processor.specs.Accesses.{ordinary}
-use Rattle.processor.specs.Prog.{ended, interp}
+use Rattle.processor.specs.Prog.{Result, interp}
 use Rattle.processor.specs.Popped.{resultOf}
 use Rattle.processor.specs.declared.popped.Popped.{Popped}
 use Rattle.call.specs.Call.{pushed, runsPast}
@@ -17,7 +17,7 @@ use Rattle.ret.proofs.RetWays.{stack-end, pop-blocked, frame-failed, ou
 use Rattle.ret.proofs.execute.Statement.{statement}
 use Rattle.ret.proofs.execute.Tie as tie
 
--- the entry of the function, from the places that the facts below stand at; where addresses lead, and the pop off the ordinary stack
+-- the entry, from the places at which something is known
 abbrev from-test : tie.Else1 → tie.Start
 from-test c = c .before .before .before .before
 
@@ -27,13 +27,13 @@ from-load c = from-test (c .before .before .before)
 abbrev from-frame : tie.After-new-ssp → tie.Start
 from-frame c = from-load (c .before .before .before .before)
 
+-- where addresses lead, and the pop off the ordinary stack as the definition has it
 abbrev led : tie.Start → Lookup
 led c = lookupOf (c .args .pages .now) (c .args .bytes .now)
 
 abbrev pop : tie.Start → Access
 pop c = ordinary (c .args .state) (c .args .state .sp) (pushed (c .args .state)) false
 
--- what is known after the test, and after each pop
 is-inside : (c : tie.Else1) → runsPast (from-test c .args .state) (from-test c .args .state .sp) ≡ false
 is-inside c = sym (c .before .runs-past .ensures) ∙ c .if1 .left
 
@@ -43,16 +43,12 @@ stack-load c = rw (c .before .ordinary .ensures, c .before .before .pushed .ensu
 loaded : (c : tie.After-load) → loadAt (led (from-load c)) (from-load c .args .bytes .now) (pop (from-load c)) ≡ c .load .result
 loaded c = rw (← stack-load c) (sym (c .load .ensures))
 
-popped : (c : tie.After-target) → loadAt (led (from-load (c .before .before))) (from-load (c .before .before) .args .bytes .now) (pop (from-load (c .before .before))) ≡ Value (c .target .given .0 .0)
-popped c = loaded (c .before .before) ∙ c .target .given .1
+-- and the pop off the shadow stack, by the way that it went
+abbrev the-frame : tie.After-new-ssp → Result ℕ
+the-frame c = interp (led (from-frame c)) (newSsp (from-frame c .args .state) (c .before .before .target .given .0 .0)) (from-frame c .args .bytes .now)
 
-framed : (c : tie.After-new-ssp)
-    → interp (led (from-frame c)) (newSsp (from-frame c .args .state) (c .before .before .target .given .0 .0)) (from-frame c .args .bytes .now) ≡ resultOf (c .new-ssp .result) (from-frame c .args .bytes .now)
-framed c = sym (c .new-ssp .ensures)
-
-topped : (c : tie.After-ssp)
-    → interp (led (from-frame (c .before .before))) (newSsp (from-frame (c .before .before) .args .state) (c .before .before .before .before .target .given .0 .0)) (from-frame (c .before .before) .args .bytes .now) ≡ ended (c .ssp .given .0 .0) (from-frame (c .before .before) .args .bytes .now)
-topped c = framed (c .before .before) ∙ ap (λ (p : Popped). resultOf p (from-frame (c .before .before) .args .bytes .now)) (c .ssp .given .1)
+went : (c : tie.After-new-ssp) (p : Popped) → c .new-ssp .result ≡ p → the-frame c ≡ resultOf p (from-frame c .args .bytes .now)
+went c p e = sym (c .new-ssp .ensures) ∙ ap (λ (q : Popped). resultOf q (from-frame c .args .bytes .now)) e
 
 runs-past-requires : tie.Need-runs-past-requires
 runs-past-requires c κs = search needs
@@ -112,8 +108,13 @@ fail-requires-4 c κs = search needs
 
 returns-2 : tie.Need-returns-2
 returns-2 c =
+    let ssp = c .before .before .before .before .before in
+    let target = ssp .before .before .before .before in
+    let popped = loaded (target .before .before) ∙ target .target .given .1 in
+    let topped = went (ssp .before .before) _ (ssp .ssp .given .1) in
+    let tested = sym (c .before .before .before .in-code .ensures) ∙ not-true _ (c .before .before .if2 .taken) in
     rw (c .fail4 .ensures, c .before .fault3 .ensures)
-    (sym (outside _ _ _ _ (is-inside (c .before .before .before .before .before .before .before .before .before .before .before .before .before .before)) _ (popped (c .before .before .before .before .before .before .before .before .before)) _ (topped (c .before .before .before .before .before)) (sym (c .before .before .before .in-code .ensures) ∙ not-true _ (c .before .before .if2 .taken))))
+    (sym (outside _ _ _ _ (is-inside (target .before .before .before .before .before)) _ popped _ topped tested))
 
 bytes-requires : tie.Need-bytes-requires
 bytes-requires c κs = search needs
@@ -129,18 +130,32 @@ transfer-requires c κs = search needs
 
 returns-3 : tie.Need-returns-3
 returns-3 c =
-    rw (c .fail2 .ensures, c .before .blame .ensures, stack-load (c .before .before .before .before .before))
-    (sym (pop-blocked _ _ _ _ (is-inside (c .before .before .before .before .before .before .before .before)) _ (loaded (c .before .before .before .before .before) ∙ c .before .before .before .failure .given .1)))
+    let load = c .before .before .before .before .before in
+    rw (c .fail2 .ensures, c .before .blame .ensures, stack-load load)
+    (sym (pop-blocked _ _ _ _ (is-inside (load .before .before .before)) _ (loaded load ∙ c .before .before .before .failure .given .1)))
 
 returns-4 : tie.Need-returns-4
 returns-4 c =
+    let target = c .before .before .before .before .before .before in
+    let popped = loaded (target .before .before) ∙ target .target .given .1 in
     rw (c .fail3 .ensures)
-    (sym (frame-failed _ _ _ _ (is-inside (c .before .before .before .before .before .before .before .before .before .before .before)) _ (popped (c .before .before .before .before .before .before)) _ (framed (c .before .before .before .before) ∙ ap (λ (p : Popped). resultOf p (from-frame (c .before .before .before .before) .args .bytes .now)) (c .before .before .fault2 .given .1))))
+    (sym (frame-failed _ _ _ _ (is-inside (target .before .before .before .before .before)) _ popped _ (went (c .before .before .before .before) _ (c .before .before .fault2 .given .1))))
 
 returns-5 : tie.Need-returns-5
 returns-5 c =
-    rw (c .transfer .ensures, c .before .plus2 .ensures, c .before .before .plus .ensures, c .before .before .before .bytes .ensures, c .before .before .before .before .before .before .before .before .before .before .before .before .before .before .before .pushed .ensures)
-    (sym (returned _ _ _ _ (is-inside (c .before .before .before .before .before .before .before .before .before .before .before .before .before .before .before .before)) _ (popped (c .before .before .before .before .before .before .before .before .before .before .before)) _ (topped (c .before .before .before .before .before .before .before)) (sym (c .before .before .before .before .before .in-code .ensures) ∙ not-false _ (c .before .before .before .before .if2 .left))))
+    let ssp = c .before .before .before .before .before .before .before in
+    let target = ssp .before .before .before .before in
+    let popped = loaded (target .before .before) ∙ target .target .given .1 in
+    let topped = went (ssp .before .before) _ (ssp .ssp .given .1) in
+    let tested = sym (c .before .before .before .before .before .in-code .ensures) ∙ not-false _ (c .before .before .before .before .if2 .left) in
+    rw (
+      c .transfer .ensures,
+      c .before .plus2 .ensures,
+      c .before .before .plus .ensures,
+      c .before .before .before .bytes .ensures,
+      c .before .before .before .before .before .before .before .before .before .before .before .before .before .before .before .pushed .ensures,
+    )
+    (sym (returned _ _ _ _ (is-inside (target .before .before .before .before .before)) _ popped _ topped tested))
 
 pub execute-spec : {M : Type 1} → statement M
 execute-spec =

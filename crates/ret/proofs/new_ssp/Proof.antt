@@ -4,6 +4,7 @@ use mathlib.Core.Bool.{true, false}
 use borrow.Author.Tests.{not-true, not-false}
 use borrow.Author.Needs.{needs}
 use Rattle.memory.specs.Access.{lookupOf, load as loadAt}
+use Rattle.memory.specs.declared.access.Access.{Access}
 use Rattle.processor.specs.State.{enabled}
 use Rattle.processor.specs.Accesses.{shadow}
 use Rattle.call.specs.Call.{pushed}
@@ -11,15 +12,25 @@ use Rattle.ret.proofs.RetWays.{not-asked, frame-blocked, frame-differs,
 use Rattle.ret.proofs.new_ssp.Statement.{statement}
 use Rattle.ret.proofs.new_ssp.Tie as tie
 
--- what is known after the test, and after the load
-is-on : (c : tie.Else1) → enabled (c .before .before .before .before .args .state) ≡ true
+-- the entry, from the places at which something is known
+abbrev from-test : tie.Else1 → tie.Start
+from-test c = c .before .before .before .before
+
+abbrev from-load : tie.After-load → tie.Start
+from-load c = from-test (c .before .before .before)
+
+-- the pop as the definition has it
+abbrev pop : tie.Start → Access
+pop c = shadow (c .args .state) (c .args .state .ssp) (pushed (c .args .state)) false
+
+is-on : (c : tie.Else1) → enabled (from-test c .args .state) ≡ true
 is-on c = sym (c .before .enabled .ensures) ∙ not-false _ (c .if1 .left)
 
-frame-load : (c : tie.After-shadow) → c .shadow .result ≡ shadow (c .before .before .before .before .before .before .args .state) (c .before .before .before .before .before .before .args .state .ssp) (pushed (c .before .before .before .before .before .before .args .state)) false
-frame-load c = rw (c .shadow .ensures, c .before .pushed .ensures)
+frame-load : (c : tie.After-load) → c .before .shadow .result ≡ pop (from-load c)
+frame-load c = rw (c .before .shadow .ensures, c .before .before .pushed .ensures)
 
-found : (c : tie.After-load) → loadAt (lookupOf (c .before .before .before .before .before .before .before .args .pages .now) (c .before .before .before .before .before .before .before .args .bytes .now)) (c .before .before .before .before .before .before .before .args .bytes .now) (shadow (c .before .before .before .before .before .before .before .args .state) (c .before .before .before .before .before .before .before .args .state .ssp) (pushed (c .before .before .before .before .before .before .before .args .state)) false) ≡ c .load .result
-found c = rw (← frame-load (c .before)) (sym (c .load .ensures))
+found : (c : tie.After-load) → loadAt (lookupOf (from-load c .args .pages .now) (from-load c .args .bytes .now)) (from-load c .args .bytes .now) (pop (from-load c)) ≡ c .load .result
+found c = rw (← frame-load c) (sym (c .load .ensures))
 
 enabled-requires : tie.Need-enabled-requires
 enabled-requires c κs = search needs
@@ -55,15 +66,20 @@ control-fault-requires : tie.Need-control-fault-requires
 control-fault-requires c κs = search needs
 
 returns-2 : tie.Need-returns-2
-returns-2 c = rw (c .blame .ensures, frame-load (c .before .before .before .before .before)) (sym (frame-blocked _ _ _ _ (is-on (c .before .before .before .before .before .before .before)) _ (found (c .before .before .before .before) ∙ c .before .before .failure .given .1)))
+returns-2 c =
+    let load = c .before .before .before .before in
+    rw (c .blame .ensures, frame-load load) (sym (frame-blocked _ _ _ _ (is-on (load .before .before .before)) _ (found load ∙ c .before .before .failure .given .1)))
 
 returns-3 : tie.Need-returns-3
 returns-3 c =
+    let load = c .before .before .before .before .before .before in
     rw (c .plus .ensures, c .before .bytes .ensures, c .before .before .before .before .before .before .before .before .pushed .ensures)
-    (sym (frame-popped _ _ _ _ (is-on (c .before .before .before .before .before .before .before .before .before)) _ (found (c .before .before .before .before .before .before) ∙ c .before .before .before .before .frame .given .1) (c .before .before .if2 .taken)))
+    (sym (frame-popped _ _ _ _ (is-on (load .before .before .before)) _ (found load ∙ c .before .before .before .before .frame .given .1) (c .before .before .if2 .taken)))
 
 returns-4 : tie.Need-returns-4
-returns-4 c = rw (c .control-fault .ensures) (sym (frame-differs _ _ _ _ (is-on (c .before .before .before .before .before .before .before .before)) _ (found (c .before .before .before .before .before) ∙ c .before .before .before .frame .given .1) (c .before .if2 .left)))
+returns-4 c =
+    let load = c .before .before .before .before .before in
+    rw (c .control-fault .ensures) (sym (frame-differs _ _ _ _ (is-on (load .before .before .before)) _ (found load ∙ c .before .before .before .frame .given .1) (c .before .if2 .left)))
 
 pub new-ssp-spec : {M : Type 1} → statement M
 new-ssp-spec =

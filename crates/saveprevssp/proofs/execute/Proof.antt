@@ -4,6 +4,7 @@ use mathlib.Core.Bool.{true, false}
 use borrow.Author.Tests.{not-true, not-false}
 use borrow.Author.Needs.{needs}
 use Rattle.memory.specs.Access.{lookupOf, load as loadAt}
+use Rattle.memory.specs.declared.access.Access.{Access}
 use Rattle.memory.specs.declared.access.Size.the-variants.{Eight}
 use Rattle.processor.specs.State.{usable}
 use Rattle.processor.specs.Accesses.{shadow}
@@ -20,10 +21,20 @@ fault-requires c κs = search needs
 fail-requires : tie.Need-fail-requires
 fail-requires c κs = search needs
 
-is-usable : (c : tie.Else1) → usable (c .before .before .before .before .args .state) ≡ true
+-- the entry, from the places at which something is known; and the pop as the definition has it
+abbrev from-test : tie.Else1 → tie.Start
+from-test c = c .before .before .before .before
+
+abbrev from-load : tie.After-load → tie.Start
+from-load c = from-test (c .before .before .before .before .before)
+
+abbrev pop : tie.Start → Access
+pop c = shadow (c .args .state) (c .args .state .ssp) Eight false
+
+is-usable : (c : tie.Else1) → usable (from-test c .args .state) ≡ true
 is-usable c = sym (c .before .usable .ensures) ∙ not-false _ (c .if1 .left)
 
-found : (c : tie.After-load) → loadAt (lookupOf (c .before .before .before .before .before .before .before .before .before .args .pages .now) (c .before .before .before .before .before .before .before .before .before .args .bytes .now)) (c .before .before .before .before .before .before .before .before .before .args .bytes .now) (shadow (c .before .before .before .before .before .before .before .before .before .args .state) (c .before .before .before .before .before .before .before .before .before .args .state .ssp) Eight false) ≡ c .load .result
+found : (c : tie.After-load) → loadAt (lookupOf (from-load c .args .pages .now) (from-load c .args .bytes .now)) (from-load c .args .bytes .now) (pop (from-load c)) ≡ c .load .result
 found c = rw (← c .before .before .shadow .ensures) (sym (c .load .ensures))
 
 returns : tie.Need-returns
@@ -68,16 +79,19 @@ same-length c = search needs
 
 returns-3 : tie.Need-returns-3
 returns-3 c =
+    let load = c .before .before .before .before .before in
     rw (c .fail3 .ensures, c .before .blame .ensures, c .before .before .before .before .before .before .before .shadow .ensures)
-    (sym (blocked _ _ _ _ (is-usable (c .before .before .before .before .before .before .before .before .before .before)) (c .before .before .before .before .before .before .before .before .if2 .left) _ (found (c .before .before .before .before .before) ∙ c .before .before .before .failure .given .1)))
+    (sym (blocked _ _ _ _ (is-usable (load .before .before .before .before .before)) (load .before .before .before .if2 .left) _ (found load ∙ c .before .before .before .failure .given .1)))
 
 same-length-2 : tie.Need-same-length-2
 same-length-2 c = search needs
 
 returns-4 : tie.Need-returns-4
 returns-4 c =
+    let token = c .before .before .before .before .before in
+    let load = token .before .before in
     c .before .before .leave-token .ensures
-    ∙ sym (popped _ _ _ _ (is-usable (c .before .before .before .before .before .before .before .before .before .before .before .before)) (c .before .before .before .before .before .before .before .before .before .before .if2 .left) _ (found (c .before .before .before .before .before .before .before) ∙ c .before .before .before .before .before .token .given .1))
+    ∙ sym (popped _ _ _ _ (is-usable (load .before .before .before .before .before)) (load .before .before .before .if2 .left) _ (found load ∙ token .token .given .1))
 
 pub execute-spec : {M : Type 1} → statement M
 execute-spec =

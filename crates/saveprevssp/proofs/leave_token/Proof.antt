@@ -1,4 +1,5 @@
 -- `leave_token` meets its contract: each return cites the way through the definition that leads to it. Assumes nothing.
+use Prim.Native.Nat.{ℕ}
 use mathlib.Core.Path.{_≡_, sym, _∙_, ap}
 use mathlib.Core.Bool.{true}
 use mathlib.Core.List.{List}
@@ -10,7 +11,7 @@ use Rattle.memory.specs.Access.{lookupOf}
 use Rattle.stores.specs.Stores.{tryAll, writtenAll, leftBy}
 use Rattle.stores.specs.declared.Slot.{Slot}
 use Rattle.processor.specs.State.{plus}
-use Rattle.processor.specs.Prog.{ended, interp}
+use Rattle.processor.specs.Prog.{Result, interp}
 use Rattle.processor.specs.Popped.{resultOf}
 use Rattle.processor.specs.declared.popped.Popped.{Popped}
 use Rattle.processor.proofs.Laws.{long-small}
@@ -19,7 +20,7 @@ use Rattle.saveprevssp.proofs.SaveprevsspWays.{leftStores, top-failed, 
 use Rattle.saveprevssp.proofs.leave_token.Statement.{statement}
 use Rattle.saveprevssp.proofs.leave_token.Tie as tie
 
--- the entry of the function, from the places that the facts below stand at, and where addresses lead
+-- the entry, from the places at which something is known
 abbrev from-top : tie.After-new-top → tie.Start
 from-top c = c .before .before .before .before .before
 
@@ -29,17 +30,19 @@ from-test c = from-top (c .before .before .before .before .before)
 abbrev from-stores : tie.After-store-all → tie.Start
 from-stores c = from-test (c .before .before .before .before .before .before .before)
 
+-- where addresses lead, and the new top as the definition has it
 abbrev led : tie.Start → Lookup
 led c = lookupOf (c .args .pages .now) (c .args .bytes .now)
 
--- the new top, as the definition has it
-topped : (c : tie.After-new-top)
-    → interp (led (from-top c)) (newTop (from-top c .args .state) (plus (from-top c .args .state) (from-top c .args .state .ssp) 8)) (from-top c .args .bytes .now) ≡ resultOf (c .new-top .result) (from-top c .args .bytes .now)
+abbrev the-top : tie.Start → Result ℕ
+the-top c = interp (led c) (newTop (c .args .state) (plus (c .args .state) (c .args .state .ssp) 8)) (c .args .bytes .now)
+
+topped : (c : tie.After-new-top) → the-top (from-top c) ≡ resultOf (c .new-top .result) (from-top c .args .bytes .now)
 topped c = rw (← c .before .plus .ensures) (sym (c .new-top .ensures))
 
-found : (c : tie.After-top)
-    → interp (led (from-top (c .before .before))) (newTop (from-top (c .before .before) .args .state) (plus (from-top (c .before .before) .args .state) (from-top (c .before .before) .args .state .ssp) 8)) (from-top (c .before .before) .args .bytes .now) ≡ ended (c .top .given .0 .0) (from-top (c .before .before) .args .bytes .now)
-found c = topped (c .before .before) ∙ ap (λ (p : Popped). resultOf p (from-top (c .before .before) .args .bytes .now)) (c .top .given .1)
+-- the way that its pop went
+went : (c : tie.After-new-top) (p : Popped) → c .new-top .result ≡ p → the-top (from-top c) ≡ resultOf p (from-top c .args .bytes .now)
+went c p e = topped c ∙ ap (λ (q : Popped). resultOf q (from-top c .args .bytes .now)) e
 
 is-saved : (c : tie.Else1) → savedToken (from-test c .args .state) (from-test c .args .token) ≡ true
 is-saved c = sym (c .before .saved-token .ensures) ∙ not-false _ (c .if1 .left)
@@ -49,9 +52,17 @@ abbrev the-stores : tie.After-store-all → List Slot
 the-stores c = leftStores (from-stores c .args .token) (from-stores c .args .state)
 
 stored : (c : tie.After-store-all) → (c .store-all .result ≡ tryAll (led (from-stores c)) (the-stores c))
-    × (c .store-all .last .1 .1 .0 ≡ leftBy (c .store-all .result) (writtenAll (led (from-stores c)) (the-stores c) (from-stores c .args .bytes .now)) (from-stores c .args .bytes .now))
+    × (c .store-all .last .1 .1 .0
+    ≡ leftBy (c .store-all .result) (writtenAll (led (from-stores c)) (the-stores c) (from-stores c .args .bytes .now)) (from-stores c .args .bytes .now))
 stored c =
-    rw (c .before .before .before .shadow2 .ensures, c .before .before .before .before .minus2 .ensures, c .before .before .before .before .before .shadow .ensures, c .before .before .before .before .before .before .minus .ensures, c .before .before .long-bit .ensures) at (c .store-all .ensures)
+    rw (
+      c .before .before .before .shadow2 .ensures,
+      c .before .before .before .before .minus2 .ensures,
+      c .before .before .before .before .before .shadow .ensures,
+      c .before .before .before .before .before .before .minus .ensures,
+      c .before .before .long-bit .ensures,
+    )
+    at (c .store-all .ensures)
 
 plus-requires : tie.Need-plus-requires
 plus-requires c κs = search needs
@@ -82,8 +93,9 @@ same-length c = search needs
 
 returns : tie.Need-returns
 returns c =
+    let top = c .before .before .before .before .before in
     rw (c .fail2 .ensures, c .before .fault2 .ensures)
-    (sym (not-saved _ _ _ _ _ _ (found (c .before .before .before .before .before)) (sym (c .before .before .before .saved-token .ensures) ∙ not-true _ (c .before .before .if1 .taken))))
+    (sym (not-saved _ _ _ _ _ _ (went (top .before .before) _ (top .top .given .1)) (sym (c .before .before .before .saved-token .ensures) ∙ not-true _ (c .before .before .if1 .taken))))
 
 sub-old : tie.Need-sub-old
 sub-old c = search needs
@@ -142,29 +154,29 @@ same-length-2 : tie.Need-same-length-2
 same-length-2 c = search needs
 
 returns-2 : tie.Need-returns-2
-returns-2 c =
-    rw (c .fail .ensures)
-    (sym (top-failed _ _ _ _ _ _ (topped (c .before .before .before .before) ∙ ap (λ (p : Popped). resultOf p (from-top (c .before .before .before .before) .args .bytes .now)) (c .before .before .fault .given .1))))
+returns-2 c = rw (c .fail .ensures) (sym (top-failed _ _ _ _ _ _ (went (c .before .before .before .before) _ (c .before .before .fault .given .1))))
 
 same-length-3 : tie.Need-same-length-3
 same-length-3 c = search needs
 
 returns-3 : tie.Need-returns-3
 returns-3 c =
-    let done = stored (c .before .before .before .before .before .before .before) in
+    let stores = c .before .before .before .before .before .before .before in
+    let top = stores .before .before .before .before .before .before .before .before .before .before in
     let failed = c .before .before .before .access .given .1 in
-    rw (c .fail3 .ensures, c .before .blame .ensures, done .1, failed)
-    (sym (not-left _ _ _ _ _ _ (found (c .before .before .before .before .before .before .before .before .before .before .before .before .before .before .before .before .before)) (is-saved (c .before .before .before .before .before .before .before .before .before .before .before .before .before .before)) _ _ (sym (done .0) ∙ failed)))
+    rw (c .fail3 .ensures, c .before .blame .ensures, stored stores .1, failed)
+    (sym (not-left _ _ _ _ _ _ (went (top .before .before) _ (top .top .given .1)) (is-saved (stores .before .before .before .before .before .before .before)) _ _ (sym (stored stores .0) ∙ failed)))
 
 same-length-4 : tie.Need-same-length-4
 same-length-4 c = search needs
 
 returns-4 : tie.Need-returns-4
 returns-4 c =
-    let done = stored (c .before .before .before .before .before .before) in
+    let stores = c .before .before .before .before .before .before in
+    let top = stores .before .before .before .before .before .before .before .before .before .before in
     let all = c .before .before .enum-told .given .1 in
-    rw (c .shift .ensures, c .before .next .ensures, done .1, all)
-    (sym (left-behind _ _ _ _ _ _ (found (c .before .before .before .before .before .before .before .before .before .before .before .before .before .before .before .before)) (is-saved (c .before .before .before .before .before .before .before .before .before .before .before .before .before)) (sym (done .0) ∙ all)))
+    rw (c .shift .ensures, c .before .next .ensures, stored stores .1, all)
+    (sym (left-behind _ _ _ _ _ _ (went (top .before .before) _ (top .top .given .1)) (is-saved (stores .before .before .before .before .before .before .before)) (sym (stored stores .0) ∙ all)))
 
 pub leave-token-spec : {M : Type 1} → statement M
 leave-token-spec =

@@ -4,6 +4,7 @@ use mathlib.Core.Bool.{false}
 use borrow.Author.Needs.{needs}
 use Rattle.memory.specs.Access.{lookupOf, load as loadAt}
 use Rattle.memory.specs.declared.access.Size.the-variants.{Four}
+use Rattle.memory.specs.declared.access.Access.{Access}
 use Rattle.processor.specs.State.{plus}
 use Rattle.processor.specs.Accesses.{shadow}
 use Rattle.saveprevssp.proofs.SaveprevsspWays.{hole-blocked, hole-filled, hole-popped}
@@ -31,11 +32,20 @@ plus-requires c κs = search needs
 fault-requires : tie.Need-fault-requires
 fault-requires c κs = search needs
 
-found : (c : tie.After-load) → loadAt (lookupOf (c .before .before .before .before .args .pages .now) (c .before .before .before .before .args .bytes .now)) (c .before .before .before .before .args .bytes .now) (shadow (c .before .before .before .before .args .state) (c .before .before .before .before .args .top) Four false) ≡ c .load .result
+-- the entry, from the load; and what was loaded, as the definition has it
+abbrev from-load : tie.After-load → tie.Start
+from-load c = c .before .before .before .before
+
+abbrev pop : tie.Start → Access
+pop c = shadow (c .args .state) (c .args .top) Four false
+
+found : (c : tie.After-load) → loadAt (lookupOf (from-load c .args .pages .now) (from-load c .args .bytes .now)) (from-load c .args .bytes .now) (pop (from-load c)) ≡ c .load .result
 found c = rw (← c .before .shadow .ensures) (sym (c .load .ensures))
 
 returns : tie.Need-returns
-returns c = rw (c .blame .ensures, c .before .before .before .before .before .shadow .ensures) (sym (hole-blocked _ _ _ _ _ (found (c .before .before .before .before) ∙ c .before .before .failure .given .1)))
+returns c =
+    let load = c .before .before .before .before in
+    rw (c .blame .ensures, c .before .before .before .before .before .shadow .ensures) (sym (hole-blocked _ _ _ _ _ (found load ∙ c .before .before .failure .given .1)))
 
 returns-2 : tie.Need-returns-2
 returns-2 c = rw (c .plus .ensures) (sym (hole-popped _ _ _ _ _ (found (c .before .before .before .before .before) ∙ c .before .before .before .hole .given .1) (c .before .if1 .taken)))

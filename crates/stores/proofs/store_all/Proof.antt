@@ -1,45 +1,178 @@
--- `store_all` meets its contract: all are tried, with no place noted at first, and made where all can be. Assumes nothing.
-use mathlib.Core.Path.{sym, _∙_}
+-- `store_all` meets its contract. The invariants of its loops are `Trying` and `Making`, and each way out of a loop or round it is a law of those.
+-- The measure is how many slots are left. Assumes nothing.
+use Prim.Native.Nat.{_-_, _≤_}
+use mathlib.Core.Logic.{⊎-elim}
+use mathlib.Core.Path.{refl, sym, _∙_}
+use native.Mathlib.Omega.{arith}
+use lib.ListN.{length}
 use borrow.Author.Needs.{needs}
-use Rattle.stores.proofs.Turns.{nothing-noted}
+use Rattle.memory.specs.Access.{lookupOf}
+use Rattle.stores.proofs.Turns.{slotCount, Trying, trying-starts, tried-to-end, tried-all, tried-blocked, tried-within, tried-across}
+use Rattle.stores.proofs.Turns.{Making, making-starts, made-to-end, made-all, this-ready, made}
 use Rattle.stores.proofs.store_all.Statement.{statement}
 use Rattle.stores.proofs.store_all.Tie as tie
 
-try-all-requires : tie.Need-try-all-requires
-try-all-requires c κs = nothing-noted _ _ 8
+abbrev Inv-loop : tie.InvT-loop
+Inv-loop pages bytes slots places₀ i₀ places i = Trying (lookupOf pages bytes) slots places i
 
-enum-told : tie.Need-enum-told
+abbrev μ-loop : tie.MeasureT-loop
+μ-loop pages bytes slots places₀ i₀ places i = slotCount - i
+
+abbrev Inv-loop2 : tie.InvT-loop2
+Inv-loop2 pages bytes₀ slots places i₀ bytes i = Making pages bytes₀ slots places bytes i
+
+abbrev μ-loop2 : tie.MeasureT-loop2
+μ-loop2 pages bytes₀ slots places i₀ bytes i = slotCount - i
+
+loop-holds : tie.Need-loop-holds Inv-loop μ-loop Inv-loop2 μ-loop2
+loop-holds c = trying-starts _ _
+
+mul-slot : tie.Need-mul-slot Inv-loop μ-loop Inv-loop2 μ-loop2
+mul-slot c = search needs
+
+array-copy-out-slot : tie.Need-array-copy-out-slot Inv-loop μ-loop Inv-loop2 μ-loop2
+array-copy-out-slot c = search needs
+
+enum-told : tie.Need-enum-told Inv-loop μ-loop Inv-loop2 μ-loop2
 enum-told c = search needs
 
-make-all-requires : tie.Need-make-all-requires
-make-all-requires c κs =
-    let tried = c .before .before .before .try-all .ensures in
-    (tried .1, sym (tried .0) ∙ c .before .enum-told .given .1)
+enum-known-slot : tie.Need-enum-known-slot Inv-loop μ-loop Inv-loop2 μ-loop2
+enum-known-slot c = search needs
 
-enum-told-2 : tie.Need-enum-told-2
+locate-requires : tie.Need-locate-requires Inv-loop μ-loop Inv-loop2 μ-loop2
+locate-requires c κs = search needs
+
+enum-known-place : tie.Need-enum-known-place Inv-loop μ-loop Inv-loop2 μ-loop2
+enum-known-place c = search needs
+
+mul-places : tie.Need-mul-places Inv-loop μ-loop Inv-loop2 μ-loop2
+mul-places c = search needs
+
+array-write-places : tie.Need-array-write-places Inv-loop μ-loop Inv-loop2 μ-loop2
+array-write-places c = search needs
+
+enum-told-2 : tie.Need-enum-told-2 Inv-loop μ-loop Inv-loop2 μ-loop2
 enum-told-2 c = search needs
 
-same-length : tie.Need-same-length
+enum-known-failure : tie.Need-enum-known-failure Inv-loop μ-loop Inv-loop2 μ-loop2
+enum-known-failure c = search needs
+
+same-length : tie.Need-same-length Inv-loop μ-loop Inv-loop2 μ-loop2
 same-length c = search needs
 
-returns : tie.Need-returns
-returns c = (c .before .before .before .before .before .before .try-all .ensures .0, rw (c .before .before .before .before .enum-told .given .1) (c .before .before .make-all .ensures))
+returns : tie.Need-returns Inv-loop μ-loop Inv-loop2 μ-loop2
+returns c =
+    let inv = c .before .before .before .before .before .before .before .before .before .before .loop .inv in
+    (tried-blocked inv (c .before .before .before .before .before .before .slot2 .given .1) (sym (c .before .failure .given .1) ∙ c .before .before .before .locate .ensures), refl)
 
-same-length-2 : tie.Need-same-length-2
-same-length-2 c = search needs
+add-i : tie.Need-add-i Inv-loop μ-loop Inv-loop2 μ-loop2
+add-i c = search needs
 
-returns-2 : tie.Need-returns-2
-returns-2 c = search needs
+loop-less : tie.Need-loop-less Inv-loop μ-loop Inv-loop2 μ-loop2
+loop-less c = search needs
+
+loop-again : tie.Need-loop-again Inv-loop μ-loop Inv-loop2 μ-loop2
+loop-again c =
+    let inv = c .before .before .before .before .before .before .before .before .loop .inv in
+    let here = c .before .before .before .before .slot2 .given .1 in
+    ⊎-elim
+    (λ w. tried-within inv here (sym (w .1 .given .1) ∙ c .before .locate .ensures) (w .3))
+    (λ w. tried-across inv here (sym (w .1 .given .1) ∙ c .before .locate .ensures) (w .2))
+    (c .match2 .came)
+
+loop2-holds : tie.Need-loop2-holds Inv-loop μ-loop Inv-loop2 μ-loop2
+loop2-holds c =
+    let start = c .before .before .before .before in
+    let inv = c .before .loop .inv in
+    making-starts inv
+    (⊎-elim
+    (λ w. let past : length (start .args .t1) ≤ c .before .loop .i = omega (arith, start .good .0 .1 .0 .1) in tried-all inv past)
+    (λ w. tried-to-end inv (w .3 .given .1))
+    (c .loop-test .came))
+
+mul-slot-2 : tie.Need-mul-slot-2 Inv-loop μ-loop Inv-loop2 μ-loop2
+mul-slot-2 c = search needs
+
+array-copy-out-slot-2 : tie.Need-array-copy-out-slot-2 Inv-loop μ-loop Inv-loop2 μ-loop2
+array-copy-out-slot-2 c = search needs
+
+enum-told-3 : tie.Need-enum-told-3 Inv-loop μ-loop Inv-loop2 μ-loop2
+enum-told-3 c = search needs
+
+same-length-2 : tie.Need-same-length-2 Inv-loop μ-loop Inv-loop2 μ-loop2
+same-length-2 c = c .before .before .before .before .loop2 .inv .kept
+
+returns-2 : tie.Need-returns-2 Inv-loop μ-loop Inv-loop2 μ-loop2
+returns-2 c = let inv = c .before .before .before .before .loop2 .inv in (inv .all, made-to-end inv (c .enum-told3 .given .1))
+
+enum-known-slot-2 : tie.Need-enum-known-slot-2 Inv-loop μ-loop Inv-loop2 μ-loop2
+enum-known-slot-2 c = search needs
+
+mul-make : tie.Need-mul-make Inv-loop μ-loop Inv-loop2 μ-loop2
+mul-make c = search needs
+
+array-read-make : tie.Need-array-read-make Inv-loop μ-loop Inv-loop2 μ-loop2
+array-read-make c = search needs
+
+make-requires : tie.Need-make-requires Inv-loop μ-loop Inv-loop2 μ-loop2
+make-requires c κs =
+    this-ready (c .before .before .before .before .before .before .loop2 .inv) (c .before .before .slot4 .given .1) (c .before .before .before .before .before .loop2-test .taken)
+
+add-i-2 : tie.Need-add-i-2 Inv-loop μ-loop Inv-loop2 μ-loop2
+add-i-2 c = search needs
+
+loop2-less : tie.Need-loop2-less Inv-loop μ-loop Inv-loop2 μ-loop2
+loop2-less c = search needs
+
+loop2-again : tie.Need-loop2-again Inv-loop μ-loop Inv-loop2 μ-loop2
+loop2-again c =
+    made (c .before .before .before .before .before .before .before .before .before .loop2 .inv) (c .before .before .before .before .before .slot4 .given .1) (c .before .before .make .ensures)
+
+same-length-3 : tie.Need-same-length-3 Inv-loop μ-loop Inv-loop2 μ-loop2
+same-length-3 c = c .before .loop2 .inv .kept
+
+returns-3 : tie.Need-returns-3 Inv-loop μ-loop Inv-loop2 μ-loop2
+returns-3 c =
+    let start = c .before .before .before .before .before .before in
+    let past : length (start .args .t1) ≤ c .before .loop2 .i = omega (arith, start .good .0 .1 .0 .1) in
+    (c .before .loop2 .inv .all, made-all (c .before .loop2 .inv) past)
 
 pub store-all-spec : {M : Type 1} → statement M
 store-all-spec =
     tie.close
     (tie.spec
-    try-all-requires
+    Inv-loop
+    μ-loop
+    Inv-loop2
+    μ-loop2
+    loop-holds
+    mul-slot
+    array-copy-out-slot
     enum-told
-    make-all-requires
+    enum-known-slot
+    locate-requires
+    enum-known-place
+    mul-places
+    array-write-places
     enum-told-2
+    enum-known-failure
     same-length
     returns
+    add-i
+    loop-less
+    loop-again
+    loop2-holds
+    mul-slot-2
+    array-copy-out-slot-2
+    enum-told-3
     same-length-2
-    returns-2)
+    returns-2
+    enum-known-slot-2
+    mul-make
+    array-read-make
+    make-requires
+    add-i-2
+    loop2-less
+    loop2-again
+    same-length-3
+    returns-3)

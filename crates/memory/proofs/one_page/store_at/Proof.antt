@@ -28,8 +28,8 @@ same-length c = search needs
 
 returns-2 : tie.Need-returns-2
 returns-2 c =
-    c .before .before .store-within .ensures
-    ∙ sym (stored-on-page _ _ _ _ (c .before .before .before .before .before .before .before .if1 .left) (tested (c .before .before .before .before .before) ∙ c .before .before .before .before .if2 .taken))
+    let test = c .before .before .before .before in
+    c .before .before .store-within .ensures ∙ sym (stored-on-page _ _ _ _ (test .before .before .before .if1 .left) (tested (test .before) ∙ test .if2 .taken))
 
 returns-3 : tie.Need-returns-3
 returns-3 c = sym (runs-off-page _ _ _ _ (c .before .before .before .if1 .left) (tested (c .before) ∙ c .if2 .left))

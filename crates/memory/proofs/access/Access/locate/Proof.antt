@@ -50,7 +50,9 @@ returns-2 c = each-located _ _ (tested (c .before .before .before .before) ∙ c
 
 returns-3 : tie.Need-returns-3
 unfolding lookupOf
-returns-3 c = each-located _ _ (tested (c .before .before .before .before .before) ∙ c .before .before .before .before .if1 .left) _ (sym (c .before .before .before .try-each .ensures) ∙ c .before .failure .given .1)
+returns-3 c =
+    let test = c .before .before .before .before in
+    each-located _ _ (tested (test .before) ∙ test .if1 .left) _ (sym (c .before .before .before .try-each .ensures) ∙ c .before .failure .given .1)
 
 pub locate-spec : {M : Type 1} → statement M
 locate-spec =
