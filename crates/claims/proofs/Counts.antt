@@ -1,6 +1,7 @@
 -- A run's count against single operations: what demands 1 and 3 both stand on. Assumes nothing.
 --
 --     refused-stops, faulted-stops, completes    which answers are not that an instruction completed
+--     refused-no-fault                           a refusal is no fault
 --     one-more                                   what holds below k and at k
 --     unchanged                                  what does not complete changes nothing
 --     counted                                    a run of the steps is tied to `after`, as `Counted` says
@@ -32,6 +33,9 @@ refused-stops refusal e = let z : _≡_ {A = ℕ} 0 1 = cc in omega arith
 
 pub faulted-stops : (fault : Fault) → Faulted fault ≡ Completed → ⊥
 faulted-stops fault e = let z : _≡_ {A = ℕ} 0 1 = cc in omega arith
+
+pub refused-no-fault : (refusal : Refusal) (fault : Fault) → Refused refusal ≡ Faulted fault → ⊥
+refused-no-fault refusal fault e = let z : _≡_ {A = ℕ} 0 1 = cc in omega arith
 
 pub completes : (a : Answer) → Dec (a ≡ Completed)
 completes Completed = yes refl

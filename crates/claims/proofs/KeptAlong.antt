@@ -10,12 +10,20 @@ use Rattle.replay.specs.declared.steps.Tested.{Tested}
 use Rattle.replay.specs.declared.steps.Tested.the-variants.{Passed, Failed}
 use Rattle.claims.proofs.EndsProof.{refused-before, count-tied}
 
+-- what is counted completed
+pub done-below : (set : InstructionSet) (given : Input) (j : ℕ) → j < run set given .count → after set given (suc j) .answer ≡ Completed
+done-below set given = go (check given) refl
+  where
+    go : (t : Tested) → check given ≡ t → (j : ℕ) → j < run set given .count → after set given (suc j) .answer ≡ Completed
+    go Passed e = count-tied set given e .completed
+    go (Failed refusal) e = rw (refused-before set given refusal e) (λ j none. absurd (omega arith))
+
 module _ (set : InstructionSet) (given : Input) (P : ℕ → State → Type 0) where
   -- the first n instructions, where each completes, keep P, which is told how many have completed
   abbrev Keep : ℕ → Type 0
   Keep n = (j : ℕ) → j < n → P j (after set given j .state) → after set given (suc j) .answer ≡ Completed → P (suc j) (after set given (suc j) .state)
 
-  kept-after : (n : ℕ) → P 0 (given .state) → Keep n → ((j : ℕ) → j < n → after set given (suc j) .answer ≡ Completed) → P n (after set given n .state)
+  pub kept-after : (n : ℕ) → P 0 (given .state) → Keep n → ((j : ℕ) → j < n → after set given (suc j) .answer ≡ Completed) → P n (after set given n .state)
   unfolding afterFrom
   kept-after zero start keep completed = start
   kept-after (suc n) start keep completed =

@@ -4,7 +4,7 @@
 --     MorePagesProof     more-pages (demand 3, page lists)
 --     MoreRightsProof    more-rights (demand 3, permission bits)
 --     ListOrderProof     order-free (the order of a page list)
---     LedgerProof        ledger
+--     LedgerProof        ledger-in-one-mode, ledger
 --     RangesProof        stays-in-range, run-stays-in-range
 --     FaultsProof        fault-numbers
 --     NextLineProof      same-next-line, next-line-untouched (CALL with displacement 0 does not use the shadow stack)
@@ -25,9 +25,14 @@ mod Beside
 mod NeverBack
 mod GrantedSteps
 mod PermissionBits
-mod Leaves
-mod OperationLeaves
-mod OperationStops
-mod Completions
+mod Walks
+mod IncsspWalk
+mod WrssWalk
+mod WrussWalk
+mod RstorsspWalk
+mod SaveprevsspWalk
+mod CallWalk
+mod RetWalk
+mod InstructionWalk
 mod RangeParts
 mod KeptAlong

@@ -48,6 +48,18 @@ still-set : (on : Bool) (x : ℕ) → x / 2 % 2 ≡ 1 → switchedOn on x / 2 % 
 still-set true x e = let f = without-write x in omega arith
 still-set false x e = e
 
+-- bit 1 plays no part in a register's range
+cet-alike : (x y : ℕ) → withoutWrite x ≡ withoutWrite y → cetFits x ≡ cetFits y
+unfolding cetFits
+cet-alike x y e = refl
+
+-- hidden, and put back from another register
+pub cet-hidden : (x : ℕ) → cetFits (withoutWrite x) ≡ cetFits x
+cet-hidden x = cet-alike _ x (let e = without-write x in let f = without-write (withoutWrite x) in omega arith)
+
+pub cet-shown : (x y : ℕ) → cetFits (withoutWrite y + writeBit x) ≡ cetFits y
+cet-shown x y = cet-alike _ y (without-put x y)
+
 -- ---- a state
 
 -- an operation sees the same
@@ -60,9 +72,10 @@ pub shown-granted : (user supervisor : Bool) (s t : State) → shown (granted us
 unfolding shown granted
 shown-granted user supervisor s t = ap₂ (withCet t) (with-switched user (s .ucet) (t .ucet)) (with-switched supervisor (s .scet) (t .scet))
 
+-- the two CET registers are in their ranges alike
 pub range-granted : (user supervisor : Bool) (s : State) → inRange (granted user supervisor s) ≡ inRange s
-unfolding inRange fixedFit cetFits pointersFit granted
-range-granted user supervisor s = refl
+unfolding inRange fixedFit pointersFit granted
+range-granted user supervisor s = rw (cet-alike _ _ (without-switched user (s .ucet)), cet-alike _ _ (without-switched supervisor (s .scet)))
 
 pub still-permitted : (user supervisor : Bool) (s : State) → permitted s ≡ true → permitted (granted user supervisor s) ≡ true
 unfolding permitted granted
@@ -72,10 +85,15 @@ still-permitted user supervisor s e = eq-eqb _ 1 (go (userMode s) (eqb-true _ 1 
     go true q = still-set user (s .ucet) q
     go false q = still-set supervisor (s .scet) q
 
-pub usable-hidden : (s : State) → usable (hidden s) ≡ usable s
-unfolding usable enabled hidden
-usable-hidden s = ap (λ (low : ℕ). not (eqb (s .mode) 0) && (eqb (s .cet) 1 && eqb low 1)) (go (userMode s))
+-- SH_STK_EN is not among the bits
+pub enabled-hidden : (s : State) → enabled (hidden s) ≡ enabled s
+unfolding enabled hidden
+enabled-hidden s = ap (λ (low : ℕ). eqb (s .cet) 1 && eqb low 1) (go (userMode s))
   where
     go : (t : Bool) → cond t (withoutWrite (s .ucet)) (withoutWrite (s .scet)) % 2 ≡ cond t (s .ucet) (s .scet) % 2
     go true = without-low (s .ucet)
     go false = without-low (s .scet)
+
+pub usable-hidden : (s : State) → usable (hidden s) ≡ usable s
+unfolding usable hidden
+usable-hidden s = ap (λ (on : Bool). not (eqb (s .mode) 0) && on) (enabled-hidden s)

@@ -50,12 +50,27 @@ unfoldable pub sumOf : (Operation → Instruction → State → ℕ) → (ℕ �
 sumOf amount listed opening zero = 0
 sumOf amount listed opening (suc k) = sumOf amount listed opening k + amount (decoded (listed k .code)) (listed k) (opening k)
 
--- For a run without a completed RSTORSSP: first SSP and all bytes popped, last SSP and all bytes pushed, are equal modulo 2^64 in mode 2,
--- otherwise 2^32. The sums come from the completed instructions and their opening states.
-abbrev pub Ledger : Type 0
-Ledger = (given : Input)
-    → let s : State = given .state in
+-- First SSP and all bytes popped, last SSP and all bytes pushed, are equal modulo 2^64 in mode 2, otherwise 2^32. The sums come from the
+-- completed instructions and their opening states.
+abbrev pub Balanced : Input → Type 0
+Balanced given =
+    let s : State = given .state in
     let r : Run = replayed given in
     let opening : ℕ → State = λ j. after (built given) given j .state in
-    ((j : ℕ) → j < r .count → decoded (listed given j .code) ≡ Rstorssp → ⊥)
-    → wrapped (widthOf s) (s .ssp + sumOf popped (listed given) opening (r .count)) ≡ wrapped (widthOf s) (r .state .ssp + sumOf pushedBy (listed given) opening (r .count))
+    wrapped (widthOf s) (s .ssp + sumOf popped (listed given) opening (r .count)) ≡ wrapped (widthOf s) (r .state .ssp + sumOf pushedBy (listed given) opening (r .count))
+
+-- no RSTORSSP completes
+abbrev pub NeverRestored : Input → Type 0
+NeverRestored given = (j : ℕ) → j < replayed given .count → decoded (listed given j .code) ≡ Rstorssp → ⊥
+
+-- every completed instruction leaves the mode as it was at first
+abbrev pub OneMode : Input → Type 0
+OneMode given = (j : ℕ) → j < replayed given .count → after (built given) given (suc j) .state .mode ≡ given .state .mode
+
+-- a run that keeps one mode, without a completed RSTORSSP
+abbrev pub LedgerInOneMode : Type 0
+LedgerInOneMode = (given : Input) → OneMode given → NeverRestored given → Balanced given
+
+-- no operation that is built changes the mode
+abbrev pub Ledger : Type 0
+Ledger = (given : Input) → NeverRestored given → Balanced given
