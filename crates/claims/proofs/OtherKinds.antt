@@ -23,7 +23,7 @@ use Rattle.memory.proofs.Laws.{alike-probe, store-in-both}
 use Rattle.processor.specs.Accesses.{ordinary}
 use Rattle.processor.specs.Prog.{Result, ended, onReach}
 use Rattle.processor.specs.declared.state.State.{State}
-use Rattle.claims.specs.NextLine.{isOrdinary, SameOrdinary}
+use Rattle.claims.specs.CallOfNext.{isOrdinary, SameOrdinary}
 
 -- ---- a lookup without the pages of other kinds
 
