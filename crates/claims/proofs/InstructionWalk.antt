@@ -125,7 +125,7 @@ abbrev pub shownRule : Lookup → Instruction → State → List ℕ → Rule St
 shownRule look i s bytes = endingIn (itsRule look i s bytes) (Shown look i s bytes)
 
 module _ (given : Input) (look : Lookup) (i : Instruction) (s : State) (bytes : List ℕ) where
-  exec-walk : Walks look (shownRule look i s bytes) (exec (built given) i s) bytes
+  pub exec-walk : Walks look (shownRule look i s bytes) (exec (built given) i s) bytes
   unfolding exec
   exec-walk =
       rw (built-whole i (permitted s) (hidden s))

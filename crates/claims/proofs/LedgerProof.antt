@@ -93,7 +93,8 @@ module _ (look : Lookup) (bytes : List ℕ) where
   turn (Wrss size) i s t form is other same = rw is
   turn (Call Relative) i s t form end other same =
       let small : i .a < 2 ^ 32 = ltb-true _ _ (both (ltb (i .a) (2 ^ 32)) _ (both (wordsFit (Call Relative) i) _ form .0) .0) in
-      rw (end .1, ← by-words (i .a) (frameBytes s) small) (below-turn s (displaced (i .a)))
+      rw (end .1)
+      (below-turn s (displaced (i .a)) ∙ ap (λ (down : ℕ). wrapped (widthOf s) (belowSsp s (displaced (i .a)) + down)) (by-words (i .a) (frameBytes s) small))
   turn (Call Absolute) i s t form end other same = rw (end .1) (below-turn s true)
   turn (Ret release) i s t form end other same = rw (end .1) (frame-turn s)
   turn (Wruss size) i s t form is other same = rw is

@@ -7,7 +7,7 @@
 --     LedgerProof        ledger-in-one-mode, ledger
 --     RangesProof        stays-in-range, run-stays-in-range
 --     FaultsProof        fault-numbers
---     NextLineProof      same-next-line, next-line-untouched (CALL with displacement 0 does not use the shadow stack)
+--     CallOfNextProof    same-call-of-next, call-of-next-untouched (CALL with displacement 0 does not use the shadow stack)
 --     WorkedProof        worked, worked-returns (the worked cases)
 --     Promised           demand-1, demand-3, promised: all of them
 
@@ -18,7 +18,7 @@ pub mod ListOrderProof
 pub mod LedgerProof
 pub mod RangesProof
 pub mod FaultsProof
-pub mod NextLineProof
+pub mod CallOfNextProof
 pub mod Promised
 mod Counts
 mod Beside

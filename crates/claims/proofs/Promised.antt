@@ -7,7 +7,7 @@ use Rattle.claims.proofs.ListOrderProof.{order-free}
 use Rattle.claims.proofs.LedgerProof.{ledger-in-one-mode, ledger}
 use Rattle.claims.proofs.RangesProof.{stays-in-range, run-stays-in-range}
 use Rattle.claims.proofs.FaultsProof.{fault-numbers}
-use Rattle.claims.proofs.NextLineProof.{same-next-line, next-line-untouched}
+use Rattle.claims.proofs.CallOfNextProof.{same-call-of-next, call-of-next-untouched}
 use Rattle.worked.proofs.WorkedProof.{worked, worked-returns}
 
 pub demand-1 : Demand1
@@ -33,8 +33,8 @@ promised = record {
   stays-in-range = stays-in-range;
   run-stays-in-range = run-stays-in-range;
   fault-numbers = fault-numbers;
-  same-next-line = same-next-line;
-  next-line-untouched = next-line-untouched;
+  same-call-of-next = same-call-of-next;
+  call-of-next-untouched = call-of-next-untouched;
   worked = worked;
   worked-returns = worked-returns;
 }

@@ -11,5 +11,5 @@ pub mod ListOrder
 pub mod Ledger
 pub mod Ranges
 pub mod Faults
-pub mod NextLine
+pub mod CallOfNext
 pub mod Promises

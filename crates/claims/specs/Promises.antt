@@ -7,7 +7,7 @@ use Rattle.claims.specs.ListOrder.{OrderFree}
 use Rattle.claims.specs.Ledger.{LedgerInOneMode, Ledger}
 use Rattle.claims.specs.Ranges.{StaysInRange, RunStaysInRange}
 use Rattle.claims.specs.Faults.{FaultNumbers}
-use Rattle.claims.specs.NextLine.{SameNextLine, NextLineUntouched}
+use Rattle.claims.specs.CallOfNext.{SameCallOfNext, CallOfNextUntouched}
 use Rattle.worked.specs.Worked.{Worked}
 use Rattle.worked.specs.WorkedReturns.{WorkedReturns}
 
@@ -34,7 +34,7 @@ pub record Promises : Type 0 where
   pub stays-in-range : StaysInRange
   pub run-stays-in-range : RunStaysInRange
   pub fault-numbers : FaultNumbers
-  pub same-next-line : SameNextLine
-  pub next-line-untouched : NextLineUntouched
+  pub same-call-of-next : SameCallOfNext
+  pub call-of-next-untouched : CallOfNextUntouched
   pub worked : Worked
   pub worked-returns : WorkedReturns

@@ -17,7 +17,7 @@
 --     first-byte-decides                                     on one page, the first byte's page, kind and place decide those of every byte
 --     one-page-exactly                                       `onePage`, by which that is stated, holds wherever all bytes lie on the first one's page
 -- Pages of other kinds than an access's:
---     same-kind-probe                                        trying it does not see them, but for the name of its failure (`isKind`, `kindAside`)
+--     same-kind-probe                                        what trying it finds depends only on which addresses are listed and which are of its kind
 --     written-on-kind                                        a store leaves them alone
 -- Two memories side by side, over any two lookups:
 --     ready-in-second, same-value, same-load                 an access done in the first is done in the second, with the same value
@@ -35,6 +35,6 @@ pub use Rattle.memory.proofs.Stored.{value-written, written-elsewhere}
 pub use Rattle.memory.proofs.TwoMemories.{length-written, length-stored}
 pub use Rattle.memory.proofs.Lookup.{lookup-places, lookup-kept}
 pub use Rattle.memory.proofs.OnePage.{first-byte-decides, one-page-exactly, told, placed-written}
-pub use Rattle.memory.proofs.OtherKinds.{isKind, kindAside, same-kind-probe, written-on-kind}
+pub use Rattle.memory.proofs.OtherKinds.{same-kind-probe, written-on-kind}
 pub use Rattle.memory.proofs.TwoMemories.{ready-in-second, same-value, same-load, store-in-both, not-canonical, alike-probe, alike-load}
 pub use Rattle.memory.proofs.PageLists.{pages-extend, extends-pages, order-free}

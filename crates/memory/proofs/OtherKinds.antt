@@ -12,9 +12,9 @@ use Rattle.pages.specs.declared.address.Width.{Width}
 use Rattle.pages.specs.declared.pages.Spot.{Spot}
 use Rattle.pages.specs.declared.pages.Spot.the-variants.{Unlisted, At}
 use Rattle.memory.specs.Access.{kindNumber, byteCount, andThen, scan, onKind, listedByte, start, canonicalBytes, listedBytes, probe, written}
-use Rattle.memory.specs.Extends.{cell, Places}
+use Rattle.memory.specs.Extends.{cell, isListed, isKind, Places}
 use Rattle.memory.specs.declared.access.Access.{Access}
-use Rattle.memory.specs.declared.access.Failure.the-variants.{NotCanonical, NotListed, WrongKind}
+use Rattle.memory.specs.declared.access.Failure.the-variants.{WrongKind}
 use Rattle.memory.specs.declared.access.Reach.{Reach}
 use Rattle.memory.specs.declared.access.Reach.the-variants.{Ready, Blocked}
 use Rattle.pages.proofs.Sums.{Wrapped, wrapped-plus, wrapped-start, one-on}
@@ -22,64 +22,35 @@ use Rattle.memory.proofs.Cells.{reached}
 use Rattle.memory.proofs.Stored.{written-elsewhere}
 use Rattle.memory.proofs.TwoMemories.{ready-turn, probe-ready}
 
--- an address leads to a page of the kind
-abbrev pub isKind : ℕ → Spot → Bool
-isKind kind Unlisted = false
-isKind kind (At found place) = eqb found kind
-
--- what trying finds, where a page of another kind is taken for one that is not listed
-abbrev pub kindAside : Reach → Reach
-kindAside Ready = Ready
-kindAside (Blocked NotCanonical) = Blocked NotCanonical
-kindAside (Blocked (NotListed address)) = Blocked (NotListed address)
-kindAside (Blocked (WrongKind address)) = Blocked (NotListed address)
-
 -- ---- trying
 
--- two findings, one after the other
-aside-then : (r next : Reach) → kindAside (andThen r next) ≡ andThen (kindAside r) (kindAside next)
-aside-then Ready next = refl
-aside-then (Blocked NotCanonical) next = refl
-aside-then (Blocked (NotListed address)) next = refl
-aside-then (Blocked (WrongKind address)) next = refl
+-- one byte
+same-byte : (kind address : ℕ) (at₁ at₂ : Spot) → isListed at₁ ≡ isListed at₂ → isKind kind at₁ ≡ isKind kind at₂ → onKind kind address at₁ ≡ onKind kind address at₂
+same-byte kind address Unlisted Unlisted listed same = refl
+same-byte kind address Unlisted (At found place) listed same = absurd (true≢false (sym listed))
+same-byte kind address (At found place) Unlisted listed same = absurd (true≢false listed)
+same-byte kind address (At found₁ place₁) (At found₂ place₂) listed same = ap (λ (t : Bool). cond t Ready (Blocked (WrongKind address))) same
 
--- all that counts is whether the byte's page is of the kind
-aside-byte : (kind address : ℕ) (at : Spot) → kindAside (onKind kind address at) ≡ cond (isKind kind at) Ready (Blocked (NotListed address))
-aside-byte kind address Unlisted = refl
-aside-byte kind address (At found place) = go (eqb found kind)
-  where
-    go : (t : Bool) → kindAside (cond t Ready (Blocked (WrongKind address))) ≡ cond t Ready (Blocked (NotListed address))
-    go true = refl
-    go false = refl
-
-aside-scan : (t₁ t₂ : ℕ → Reach) → ((address : ℕ) → kindAside (t₁ address) ≡ kindAside (t₂ address)) → (w : Width) (address n : ℕ)
-    → kindAside (scan t₁ w address n) ≡ kindAside (scan t₂ w address n)
+-- bytes in a row, by any test
+same-scan : (t₁ t₂ : ℕ → Reach) → ((address : ℕ) → t₁ address ≡ t₂ address) → (w : Width) (address n : ℕ) → scan t₁ w address n ≡ scan t₂ w address n
 unfolding scan
-aside-scan t₁ t₂ alike w address zero = refl
-aside-scan t₁ t₂ alike w address (suc n) =
-    aside-then (t₁ address) (scan t₁ w (plus w address 1) n)
-    ∙ ap₂ andThen (alike address) (aside-scan t₁ t₂ alike w (plus w address 1) n)
-    ∙ sym (aside-then (t₂ address) (scan t₂ w (plus w address 1) n))
+same-scan t₁ t₂ alike w address zero = refl
+same-scan t₁ t₂ alike w address (suc n) = ap₂ andThen (alike address) (same-scan t₁ t₂ alike w (plus w address 1) n)
 
--- Where the pages of its kind have the same addresses, an access finds the same: pages of other kinds may be missing, or be of yet another
--- kind. Only whether a failure is called `NotListed` or `WrongKind` may differ.
+-- What trying an access finds depends only on which addresses are listed and which of them are of its kind.
 pub same-kind-probe : (look₁ look₂ : Lookup) (a : Access)
+    → ((address : ℕ) → isListed (look₁ address) ≡ isListed (look₂ address))
     → ((address : ℕ) → isKind (kindNumber (a .kind)) (look₁ address) ≡ isKind (kindNumber (a .kind)) (look₂ address))
-    → kindAside (probe look₁ a) ≡ kindAside (probe look₂ a)
+    → probe look₁ a ≡ probe look₂ a
 unfolding probe listedBytes
-same-kind-probe look₁ look₂ a same =
-    aside-then (canonicalBytes a) (listedBytes look₁ a)
-    ∙ ap (andThen (kindAside (canonicalBytes a))) (aside-scan (listedByte look₁ kind) (listedByte look₂ kind) bytes (a .width) (start a) (byteCount (a .size)))
-    ∙ sym (aside-then (canonicalBytes a) (listedBytes look₂ a))
+same-kind-probe look₁ look₂ a listed same =
+    ap (andThen (canonicalBytes a)) (same-scan (listedByte look₁ kind) (listedByte look₂ kind) bytes (a .width) (start a) (byteCount (a .size)))
   where
     kind : ℕ
     kind = kindNumber (a .kind)
 
-    bytes : (address : ℕ) → kindAside (listedByte look₁ kind address) ≡ kindAside (listedByte look₂ kind address)
-    bytes address =
-        aside-byte kind address (look₁ address)
-        ∙ ap (λ (t : Bool). cond t Ready (Blocked (NotListed address))) (same address)
-        ∙ sym (aside-byte kind address (look₂ address))
+    bytes : (address : ℕ) → listedByte look₁ kind address ≡ listedByte look₂ kind address
+    bytes address = same-byte kind address (look₁ address) (look₂ address) (listed address) (same address)
 
 -- ---- storing
 

@@ -1,9 +1,10 @@
 -- Two memories side by side (docs/RULES.md, "Two runs side by side"). Assumes nothing.
 use Prim.Native.Nat.{ℕ, _*_, _<_}
 use mathlib.Core.Path.{_≡_}
-use mathlib.Core.Bool.{false}
+use mathlib.Core.Bool.{Bool, true, false}
 use mathlib.Core.List.{List}
 use lib.ListN.{length, getD, take, drop}
+use lib.Dec.{eqb}
 use Rattle.pages.specs.Pages.{Lookup, pageBytes, pageOf, onPage, anyEntry}
 use Rattle.pages.specs.declared.pages.Spot.{Spot}
 use Rattle.pages.specs.declared.pages.Spot.the-variants.{Unlisted, At}
@@ -19,6 +20,15 @@ cellIn bytes (At kind place) = present kind (getD bytes place 0)
 
 abbrev pub cell : Lookup → List ℕ → ℕ → Cell
 cell look bytes address = cellIn bytes (look address)
+
+-- an address leads to a listed page, and to one of a kind
+abbrev pub isListed : Spot → Bool
+isListed Unlisted = false
+isListed (At kind place) = true
+
+abbrev pub isKind : ℕ → Spot → Bool
+isKind kind Unlisted = false
+isKind kind (At found place) = eqb found kind
 
 -- The second memory extends the first. Old bytes (the papers' term: those on pages of the first) are alike in both, and so are
 -- their kinds; every other address of the second, on an added page or on none, still holds what was lent there, `lent₂`.
