@@ -11,4 +11,5 @@ pub mod State
 pub mod Accesses
 pub mod Outcomes
 pub mod Prog
+-- serves the contracts of the operations' private functions
 pub mod Popped
