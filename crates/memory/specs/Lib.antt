@@ -1,6 +1,6 @@
 -- What a reader of the memory's contracts must believe, to be read beside docs/RULES.md: "Pages", "Refusals" 1 to 4, "Reaching a
--- byte". In this order: Address, Pages, Access, Extends. Search and OnePage serve the contracts of private functions, but for `onePage` and
--- `further` of OnePage, by which the theorem `first-byte-decides` is stated.
+-- byte". In this order: Address, Pages, Access, Extends, OnePage. Search serves the contracts of private functions, and so does what the head
+-- of OnePage does not name.
 --
 -- How to read it. A line with `:` gives a definition's type, the lines below it say what it is, case by case. `ℕ` are the whole
 -- numbers from 0, `/` and `%` quotient and remainder; `-` stops at 0. `eqb`, `ltb`, `leb` test for equal, less and at most;

@@ -1,6 +1,6 @@
--- Numbers whose bytes all lie on one page, and where an access lies. Of these definitions only `onePage` and `further` say something to
--- a reader of the promises: the theorem `first-byte-decides` (proofs/OnePage.antt) is stated by them. The others serve the contracts of
--- private functions. Assumes nothing.
+-- Numbers whose bytes all lie on one page, where an access lies, and bytes stored at a place. The theorem `first-byte-decides`
+-- (proofs/OnePage.antt) is stated by `onePage` and `further`, the contract of `Access::locate` by `located`, that of `store_at` by
+-- `storeAt`. The others serve the contracts of private functions. Assumes nothing.
 use Prim.Native.Nat.{ℕ, zero, suc, _+_, _-_, _*_, _/_, _%_, _≤_}
 use mathlib.Core.Bool.{Bool, true, cond, _&&_}
 use mathlib.Core.List.{List}

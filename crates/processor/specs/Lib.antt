@@ -12,4 +12,5 @@ pub mod Accesses
 pub mod Outcomes
 pub mod Prog
 pub mod Bits
+-- serves the contracts of the operations' private functions
 pub mod Popped

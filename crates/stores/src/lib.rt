@@ -48,27 +48,27 @@ pub fn store_all(slots: [Slot; SLOTS], pages: &[u64], bytes: &mut [u8]) -> Store
     ensures { λ r. ⌜ now (bytes .exit) ≡ leftBy r (writtenAll (lookupOf (now (pages .entry)) (now (bytes .entry))) slots (now (bytes .entry))) (now (bytes .entry)) ⌝ }
 {
     let mut places = [NO_PLACE; SLOTS];
-    let mut i: usize = 0;
-    while i < SLOTS {
-        let slot = slots[i];
+    let mut tried: usize = 0;
+    while tried < SLOTS {
+        let slot = slots[tried];
         match slot {
             Slot::Empty => break,
             Slot::Store(access, _) => match access.locate(pages, bytes) {
-                Located::Within(place) => places[i] = place,
+                Located::Within(place) => places[tried] = place,
                 Located::Across => {}
                 Located::Blocked(failure) => return Stored::NoneStored(access, failure),
             },
         }
-        i += 1;
+        tried += 1;
     }
-    i = 0;
-    while i < SLOTS {
-        let slot = slots[i];
+    let mut made: usize = 0;
+    while made < SLOTS {
+        let slot = slots[made];
         match slot {
             Slot::Empty => return Stored::AllStored,
-            Slot::Store(access, value) => make(access, value, places[i], pages, bytes),
+            Slot::Store(access, value) => make(access, value, places[made], pages, bytes),
         }
-        i += 1;
+        made += 1;
     }
     Stored::AllStored
 }

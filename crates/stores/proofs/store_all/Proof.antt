@@ -13,16 +13,16 @@ use Rattle.stores.proofs.store_all.Statement.{statement}
 use Rattle.stores.proofs.store_all.Tie as tie
 
 abbrev Inv-loop : tie.InvT-loop
-Inv-loop pages bytes slots places₀ i₀ places i = Trying (lookupOf pages bytes) slots places i
+Inv-loop pages bytes slots places₀ tried₀ places tried = Trying (lookupOf pages bytes) slots places tried
 
 abbrev μ-loop : tie.MeasureT-loop
-μ-loop pages bytes slots places₀ i₀ places i = slotCount - i
+μ-loop pages bytes slots places₀ tried₀ places tried = slotCount - tried
 
 abbrev Inv-loop2 : tie.InvT-loop2
-Inv-loop2 pages bytes₀ slots places i₀ bytes i = Making pages bytes₀ slots places bytes i
+Inv-loop2 pages bytes₀ slots places tried made₀ bytes made = Making pages bytes₀ slots places bytes made
 
 abbrev μ-loop2 : tie.MeasureT-loop2
-μ-loop2 pages bytes₀ slots places i₀ bytes i = slotCount - i
+μ-loop2 pages bytes₀ slots places tried made₀ bytes made = slotCount - made
 
 loop-holds : tie.Need-loop-holds Inv-loop μ-loop Inv-loop2 μ-loop2
 loop-holds c = trying-starts _ _
@@ -65,8 +65,8 @@ returns c =
     let inv = c .before .before .before .before .before .before .before .before .before .before .loop .inv in
     (tried-blocked inv (c .before .before .before .before .before .before .slot2 .given .1) (sym (c .before .failure .given .1) ∙ c .before .before .before .locate .ensures), refl)
 
-add-i : tie.Need-add-i Inv-loop μ-loop Inv-loop2 μ-loop2
-add-i c = search needs
+add-tried : tie.Need-add-tried Inv-loop μ-loop Inv-loop2 μ-loop2
+add-tried c = search needs
 
 loop-less : tie.Need-loop-less Inv-loop μ-loop Inv-loop2 μ-loop2
 loop-less c = search needs
@@ -86,7 +86,7 @@ loop2-holds c =
     let inv = c .before .loop .inv in
     making-starts inv
     (⊎-elim
-    (λ w. let past : length (start .args .t1) ≤ c .before .loop .i = omega (arith, start .good .0 .1 .0 .1) in tried-all inv past)
+    (λ w. let past : length (start .args .t1) ≤ c .before .loop .tried = omega (arith, start .good .0 .1 .0 .1) in tried-all inv past)
     (λ w. tried-to-end inv (w .3 .given .1))
     (c .loop-test .came))
 
@@ -118,8 +118,8 @@ make-requires : tie.Need-make-requires Inv-loop μ-loop Inv-loop2 μ-loop2
 make-requires c κs =
     this-ready (c .before .before .before .before .before .before .loop2 .inv) (c .before .before .slot4 .given .1) (c .before .before .before .before .before .loop2-test .taken)
 
-add-i-2 : tie.Need-add-i-2 Inv-loop μ-loop Inv-loop2 μ-loop2
-add-i-2 c = search needs
+add-made : tie.Need-add-made Inv-loop μ-loop Inv-loop2 μ-loop2
+add-made c = search needs
 
 loop2-less : tie.Need-loop2-less Inv-loop μ-loop Inv-loop2 μ-loop2
 loop2-less c = search needs
@@ -134,7 +134,7 @@ same-length-3 c = c .before .loop2 .inv .kept
 returns-3 : tie.Need-returns-3 Inv-loop μ-loop Inv-loop2 μ-loop2
 returns-3 c =
     let start = c .before .before .before .before .before .before in
-    let past : length (start .args .t1) ≤ c .before .loop2 .i = omega (arith, start .good .0 .1 .0 .1) in
+    let past : length (start .args .t1) ≤ c .before .loop2 .made = omega (arith, start .good .0 .1 .0 .1) in
     (c .before .loop2 .inv .all, made-all (c .before .loop2 .inv) past)
 
 pub store-all-spec : {M : Type 1} → statement M
@@ -158,7 +158,7 @@ store-all-spec =
     enum-known-failure
     same-length
     returns
-    add-i
+    add-tried
     loop-less
     loop-again
     loop2-holds
@@ -171,7 +171,7 @@ store-all-spec =
     mul-make
     array-read-make
     make-requires
-    add-i-2
+    add-made
     loop2-less
     loop2-again
     same-length-3
