@@ -102,7 +102,7 @@ module _ (set : InstructionSet) (look : Lookup) (i : Instruction) (s : State) (b
       go true e = settled rule s bytes (interp look (exec set i s) bytes) end .1 fault e
       go false e = absurd (refused-no-fault BadForm fault e)
 
-  performed-bytes : (Q : List ℕ → Type 0) → ((a : Access) (v : ℕ) (left : List ℕ) → rule .stores a v → probe look a ≡ Ready → Q left → Q (written look a v left))
+  pub performed-bytes : (Q : List ℕ → Type 0) → ((a : Access) (v : ℕ) (left : List ℕ) → rule .stores a v → probe look a ≡ Ready → Q left → Q (written look a v left))
       → Q bytes → Q (perform set look i s bytes .bytes)
   unfolding perform operate
   performed-bytes Q keeps start = go (set .fits i (hidden s))

@@ -8,6 +8,8 @@ use Rattle.claims.proofs.LedgerProof.{ledger-in-one-mode, ledger}
 use Rattle.claims.proofs.RangesProof.{stays-in-range, run-stays-in-range}
 use Rattle.claims.proofs.FaultsProof.{fault-numbers}
 use Rattle.claims.proofs.CallOfNextProof.{same-call-of-next, call-of-next-untouched}
+use Rattle.claims.proofs.StepByStepProof.{step-by-step-in-range, step-by-step}
+use Rattle.claims.proofs.RefusalNumbersProof.{same-refusal-numbers}
 use Rattle.worked.proofs.WorkedProof.{worked, worked-returns}
 
 pub demand-1 : Demand1
@@ -35,6 +37,9 @@ promised = record {
   fault-numbers = fault-numbers;
   same-call-of-next = same-call-of-next;
   call-of-next-untouched = call-of-next-untouched;
+  step-by-step-in-range = step-by-step-in-range;
+  step-by-step = step-by-step;
+  same-refusal-numbers = same-refusal-numbers;
   worked = worked;
   worked-returns = worked-returns;
 }

@@ -39,6 +39,17 @@ Walks look rule (put a v p) bytes = rule .stores a v × Walks look rule p (writt
 abbrev pub endingIn : {A B : Type 0} → Rule A → (B → Type 0) → Rule B
 endingIn rule ends = record { loads = rule .loads; stops = rule .stops; stores = rule .stores; ends = ends }
 
+-- of any program: nothing is said
+abbrev pub anything : {A : Type 0} → Rule A
+anything = record { loads = λ a. Unit {0}; stops = λ fault. Unit {0}; stores = λ a v. Unit {0}; ends = λ x. Unit {0} }
+
+pub any-walks : {A : Type 0} (look : Lookup) (p : Prog A) (bytes : List ℕ) → Walks look anything p bytes
+unfolding Walks
+any-walks look (done x) bytes = tt
+any-walks look (stop fault) bytes = tt
+any-walks look (fetch a k) bytes = (tt, any-walks look (k (value look bytes a)) bytes)
+any-walks look (put a v p) bytes = (tt, any-walks look p (written look a v bytes))
+
 -- ---- the words that operations are written in
 
 module _ (look : Lookup) {B : Type 0} (rule : Rule B) where

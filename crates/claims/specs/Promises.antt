@@ -8,6 +8,8 @@ use Rattle.claims.specs.Ledger.{LedgerInOneMode, Ledger}
 use Rattle.claims.specs.Ranges.{StaysInRange, RunStaysInRange}
 use Rattle.claims.specs.Faults.{FaultNumbers}
 use Rattle.claims.specs.CallOfNext.{SameCallOfNext, CallOfNextUntouched}
+use Rattle.claims.specs.StepByStep.{StepByStepInRange, StepByStep}
+use Rattle.claims.specs.RefusalNumbers.{SameRefusalNumbers}
 use Rattle.worked.specs.Worked.{Worked}
 use Rattle.worked.specs.WorkedReturns.{WorkedReturns}
 
@@ -36,5 +38,8 @@ pub record Promises : Type 0 where
   pub fault-numbers : FaultNumbers
   pub same-call-of-next : SameCallOfNext
   pub call-of-next-untouched : CallOfNextUntouched
+  pub step-by-step-in-range : StepByStepInRange
+  pub step-by-step : StepByStep
+  pub same-refusal-numbers : SameRefusalNumbers
   pub worked : Worked
   pub worked-returns : WorkedReturns
