@@ -16,7 +16,7 @@ use Rattle.answers.specs.declared.answer.Refusal.the-variants.{Length, Kind, Ad
 use Rattle.processor.specs.declared.state.State.{State}
 use Rattle.instructions.specs.Instruction.{instructionAt}
 use Rattle.perform.specs.Exec.{InstructionSet, exec, perform}
-use Rattle.replay.specs.Run.{Input, lookOf, listed, badWords, afterPages, tested, check, step, afterFrom, after, built}
+use Rattle.replay.specs.Run.{Input, lookOf, listed, badWords, afterPages, checkBy, check, step, afterFrom, after, built}
 use Rattle.instructions.specs.declared.instruction.Instruction.{Instruction}
 use Rattle.replay.specs.declared.steps.Tested.{Tested}
 use Rattle.replay.specs.declared.steps.Tested.the-variants.{Passed, Failed}
@@ -40,13 +40,13 @@ pages-passed BadAddress rest e = absurd (failed-no-pass Address e)
 pages-passed Repeated rest e = absurd (failed-no-pass Repeat e)
 
 -- so a list of one instruction passes too, from any state in range
-passes-alone : (pages : List ℕ) (lent : ℕ) (good : Bool) (words : ℕ) → tested pages lent good words ≡ Passed → tested pages lent true 4 ≡ Passed
-unfolding tested badWords
+passes-alone : (pages : List ℕ) (lent : ℕ) (good : Bool) (words : ℕ) → checkBy pages lent good words ≡ Passed → checkBy pages lent true 4 ≡ Passed
+unfolding checkBy badWords
 passes-alone pages lent good words e = rw (pages-passed (listing pages lent) _ e .0)
 
 -- and the state was in range
 passed-in-range : (given : Input) → check given ≡ Passed → inRange (given .state) ≡ true
-unfolding check tested
+unfolding check checkBy
 passed-in-range given passed = go (inRange (given .state)) (pages-passed (listing (given .pages) (length (given .bytes))) _ passed .1)
   where
     go : (good : Bool) → cond good (cond (badWords (length (given .words))) (Failed Words) Passed) (Failed BadState) ≡ Passed → good ≡ true
@@ -64,7 +64,7 @@ module _ (given : Input) (before : Step) (i : Instruction) (passed : check given
   next-passes : check (nextInput given before i) ≡ Passed
   unfolding check
   next-passes =
-      ap₂ (λ (lent : ℕ) (t : Bool). tested (given .pages) lent t 4) kept good
+      ap₂ (λ (lent : ℕ) (t : Bool). checkBy (given .pages) lent t 4) kept good
       ∙ passes-alone (given .pages) (length (given .bytes)) (inRange (given .state)) (length (given .words)) passed
 
   is-performed : (set : InstructionSet) → step set (nextInput given before i) ≡ perform set (lookOf given) i (before .state) (before .bytes)
