@@ -1,2 +1,3 @@
+-- Laws that belong to no one function of Near CALL.
 mod CallWays
 mod SignedNumbers

@@ -1,1 +1,2 @@
+-- INCSSP, to be read beside docs/RULES.md, "The operations"; how to read it: processor/specs/Lib.antt.
 pub mod Incssp

@@ -1,1 +1,2 @@
+-- Laws of one instruction.
 pub mod ExecLaws

@@ -1,1 +1,2 @@
+-- Near RET, to be read beside docs/RULES.md, "The operations"; how to read it: processor/specs/Lib.antt.
 pub mod Ret

@@ -1,1 +1,2 @@
+-- RSTORSSP, to be read beside docs/RULES.md, "The operations"; how to read it: processor/specs/Lib.antt.
 pub mod Rstorssp

@@ -1,1 +1,2 @@
+-- The worked cases, computed.
 pub mod WorkedProof
