@@ -1,4 +1,5 @@
--- CALL walked: it loads nothing, stores Next on the ordinary stack and, where it makes a frame, on the shadow stack, and moves both pointers. Assumes nothing.
+-- CALL walked: it loads nothing, stores Next on the ordinary stack and, where it makes a frame, on the shadow stack, and moves the
+-- pointers below what it pushed. Assumes nothing.
 use Prim.Native.Nat.{ℕ}
 use mathlib.Core.Bool.{Bool, true, not, cond}
 use mathlib.Core.List.{List}

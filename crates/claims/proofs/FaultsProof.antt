@@ -1,10 +1,12 @@
 -- The numbers of a fault: whatever fault a run ends in, its error code and its address are those of its vector and of the instruction
 -- that it ended at. Assumes nothing.
 use Prim.Native.Nat.{ℕ}
+use mathlib.Core.Bool.{Bool, false, cond}
 use mathlib.Core.List.{List}
 use mathlib.Core.Logic.{⊎-elim}
 use mathlib.Core.Path.{_≡_, refl, sym, _∙_, ap}
 use native.Mathlib.Omega.{arith}
+use lib.Dec.{eqb}
 use borrow.Author.Tests.{ne-eqb}
 use Rattle.pages.specs.Pages.{Lookup}
 use Rattle.memory.specs.declared.access.Access.{Access}
@@ -28,7 +30,7 @@ use Rattle.instructions.specs.declared.operation.Operation.the-variants.{Incssp
 use Rattle.instructions.specs.declared.operation.Release.{Release}
 use Rattle.replay.specs.declared.steps.Tested.{Tested}
 use Rattle.replay.specs.declared.steps.Tested.the-variants.{Passed, Failed}
-use Rattle.claims.specs.Faults.{Numbered, FaultNumbers}
+use Rattle.claims.specs.Faults.{controlCode, Numbered, FaultNumbers}
 use Rattle.claims.proofs.Counts.{faulted-stops, refused-no-fault}
 use Rattle.claims.proofs.EndsProof.{refused-before, count-tied}
 use Rattle.claims.proofs.InstructionWalk.{ruleOf, shownRule, breaks-at}
@@ -39,7 +41,9 @@ use Rattle.claims.proofs.Walks.{Breaks, at-stop, at-load, at-store}
 module _ (op : Operation) where
   -- error code 0 and no address, if it is not #CP
   no-code : (vector : Vector) → (vectorNumber vector ≡ 21 → ⊥) → Numbered op (plainFault vector)
-  no-code vector other = record { code = rw (ne-eqb _ _ other); control = λ e. absurd (other e); address = λ e. refl }
+  no-code vector other =
+      let not-cp : eqb (vectorNumber vector) 21 ≡ false = ne-eqb _ _ other in
+      record { code = sym (ap (λ (t : Bool). cond t (controlCode op) 0) not-cp); control = λ e. absurd (other e); address = λ e. refl }
 
   of-ud : Numbered op ud
   of-ud = no-code InvalidOpcode (λ e. omega arith)

@@ -122,7 +122,8 @@ module _ (set : InstructionSet) (look : Lookup) (i : Instruction) (s : State) (b
   abbrev more : State
   more = granted user supervisor s
 
-  -- What precedes it sees the same, so a fault there is one in both. Past that a denied one tells by its answer, and any other is the same program.
+  -- What precedes it sees the same, so a fault there is one in both. Past that a denied one tells by its answer, and any other is the
+  -- same program.
   same-exec : (t : Bool) → denied i s ≡ t → isUd (operate look (exec set i s) s bytes .answer) && denied i (operate look (exec set i s) s bytes .state) ≡ false
       → operate look (exec set i more) more bytes ≡ onStep user supervisor (operate look (exec set i s) s bytes)
   unfolding exec whole broken-off

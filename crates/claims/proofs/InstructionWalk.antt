@@ -1,5 +1,5 @@
--- An instruction walked: its operation's rule, by the state that operations see, and then the permission bits put back. What a claim needs of a single operation
--- is read off here. Assumes nothing.
+-- An instruction walked: its operation's rule, by the state that operations see, and then the permission bits put back. What a claim
+-- needs of a single operation is read off here. Assumes nothing.
 --
 --     ruleOf                      the rule of each operation
 --     completes-at, breaks-at     a single operation that completes ends as its rule says, and a fault is one of the rule's

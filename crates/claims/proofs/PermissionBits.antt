@@ -1,4 +1,5 @@
--- The permission bits of WRSS switched on: nothing else that is read off a state changes, and a WRSS that was permitted still is. Assumes nothing.
+-- The permission bits of WRSS, hidden, put back and switched on: nothing else that is read off a state changes, and a WRSS that was
+-- permitted still is. Assumes nothing.
 use Prim.Native.Nat.{ℕ, _+_, _*_, _/_, _%_}
 use mathlib.Core.Bool.{Bool, true, false, not, cond, _&&_}
 use mathlib.Core.Path.{_≡_, refl, ap, ap₂}

@@ -1,5 +1,5 @@
--- RET walked: it loads the target from the ordinary stack and, where the shadow stack is enabled, the frame there, stores nothing, and moves both
--- pointers past what it popped. Assumes nothing.
+-- RET walked: it loads the target from the ordinary stack and, where the shadow stack is enabled, the frame there, stores nothing,
+-- and moves both pointers past what it popped. Assumes nothing.
 use Prim.Native.Nat.{ℕ}
 use mathlib.Core.Bool.{true, false, not, cond}
 use mathlib.Core.List.{List}

@@ -1,5 +1,5 @@
--- SAVEPREVSSP walked: it loads the token at SSP and, where CF is set, the hole above it; it leaves a hole and a token below the old SSP that the token
--- names, and moves SSP past what it popped. Assumes nothing.
+-- SAVEPREVSSP walked: it loads the token at SSP and, where CF is set, the hole above it; it leaves a hole and a token below the old
+-- SSP that the token names, and moves SSP past what it popped. Assumes nothing.
 use Prim.Native.Nat.{ℕ, _+_, _%_}
 use mathlib.Core.Bool.{true, false, not, cond, _&&_}
 use mathlib.Core.List.{List}

@@ -1,5 +1,5 @@
--- A page list has one number for each refusal, as the list's own test gives it and as a run answers (docs/RULES.md, "Refusals and answers"). Assumes
--- nothing.
+-- Refusals 1 to 4 have one number each: the one that the page list's own test gives is the one that a run answers (docs/RULES.md,
+-- "Refusals and answers"). Assumes nothing.
 use Prim.Native.Nat.{ℕ}
 use mathlib.Core.Path.{_≡_}
 use Rattle.pages.specs.Pages.{refusalNumber as listingNumber}

@@ -1,4 +1,5 @@
--- The public single step, taken again and again, goes where a run's single operations go (docs/RULES.md, "Refusals and answers"). Assumes nothing.
+-- The public single step, taken again and again, goes where a run's single operations go (docs/RULES.md, "Refusals and answers").
+-- Assumes nothing.
 use Prim.Native.Nat.{ℕ, zero, suc, _<_}
 use mathlib.Core.Path.{_≡_}
 use mathlib.Core.Bool.{true}
@@ -20,8 +21,8 @@ unfoldable pub stepping : InstructionSet → Input → ℕ → Step
 stepping set given zero = record { answer = Completed; state = given .state; bytes = given .bytes }
 stepping set given (suc k) = step set (nextInput given (stepping set given k) (listed given k))
 
--- State, bytes and last answer are those after k single operations, whatever each answers. A step is refused where its state is out of range, so
--- of any instruction set this is claimed while the states stay in range.
+-- State, bytes and last answer are those after k single operations, whatever each answers. A step is refused where its state is out of
+-- range, so of any instruction set this is claimed while the states stay in range.
 abbrev pub StepByStepInRange : Type 0
 StepByStepInRange = (set : InstructionSet) (given : Input) → check given ≡ Passed
     → (k : ℕ) → ((j : ℕ) → j < k → inRange (after set given j .state) ≡ true) → stepping set given k ≡ after set given k

@@ -304,7 +304,9 @@ p19Address = completes 1 (long 0x40_0000 0x1ff0 0) [] (callAbsolute 0)
 -- ---- all of them
 
 abbrev pub rows : List Row
-rows = p1 ∷ p2 ∷ p3Two ∷ p3Four ∷ p4 ∷ p5 ∷ p6 ∷ p6Back ∷ p6Hole ∷ p7 ∷ p8 ∷ p9Forbidden ∷ p9Written ∷ p9Aligned ∷ p9Ordinary ∷ p10 ∷ p11 ∷ p12 ∷ p13 ∷ p14 ∷ p15 ∷ p16Relative ∷ p16Absolute ∷ p17Relative ∷ p17Absolute ∷ p18Relative ∷ p18Absolute ∷ p19Sign ∷ p19High ∷ p19Address ∷ []
+rows =
+    p1 ∷ p2 ∷ p3Two ∷ p3Four ∷ p4 ∷ p5 ∷ p6 ∷ p6Back ∷ p6Hole ∷ p7 ∷ p8 ∷ p9Forbidden ∷ p9Written ∷ p9Aligned ∷ p9Ordinary ∷ p10 ∷ p11 ∷ p12
+    ∷ p13 ∷ p14 ∷ p15 ∷ p16Relative ∷ p16Absolute ∷ p17Relative ∷ p17Absolute ∷ p18Relative ∷ p18Absolute ∷ p19Sign ∷ p19High ∷ p19Address ∷ []
 
 -- Every row's run gives what the row expects: count, answer, all registers, all bytes.
 abbrev pub Worked : Type 0
