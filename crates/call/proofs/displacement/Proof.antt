@@ -24,7 +24,12 @@ below-32 : (a : ℕ) → a % 2 ^ 32 < 2 ^ 32
 below-32 a = omega arith
 
 sub-result : tie.Need-sub-result
-sub-result c = rw (toZ-pos w64 (c .before .args .a % 2 ^ 32) (low (c .before .args .a)), wrapped (c .before .args .a % 2 ^ 32) (below-32 (c .before .args .a))) (record { sfits = omega arith })
+sub-result c =
+    rw (
+      toZ-pos w64 (c .before .args .a % 2 ^ 32) (low (c .before .args .a)),
+      wrapped (c .before .args .a % 2 ^ 32) (below-32 (c .before .args .a)),
+    )
+    (record { sfits = omega arith })
 
 returns : tie.Need-returns
 unfolding displacement
@@ -34,7 +39,11 @@ returns-2 : tie.Need-returns-2
 unfolding displacement
 returns-2 c =
     toZ-ofZ w64 _ (sub-result c)
-    ∙ rw (toZ-pos w64 (c .before .args .a % 2 ^ 32) (low (c .before .args .a)), wrapped (c .before .args .a % 2 ^ 32) (below-32 (c .before .args .a)), le-ltb _ _ (c .if1 .left))
+    ∙ rw (
+      toZ-pos w64 (c .before .args .a % 2 ^ 32) (low (c .before .args .a)),
+      wrapped (c .before .args .a % 2 ^ 32) (below-32 (c .before .args .a)),
+      le-ltb _ _ (c .if1 .left),
+    )
 
 pub displacement-spec : {M : Type 1} → statement M
 displacement-spec = tie.close (tie.spec cast-result cast-result-2 sub-result returns returns-2)

@@ -13,6 +13,28 @@ use Rattle.call.proofs.CallWays.{newSp, pushes, outside, stack-end, not
 use Rattle.call.proofs.execute.Statement.{statement}
 use Rattle.call.proofs.execute.Tie as tie
 
+-- Of a place, the places on the way to it, called as `tie` calls them.
+abbrev way-store-all : tie.After-store-all → record {
+  after-pushed : tie.After-pushed;
+  after-minus : tie.After-minus;
+  after-runs-past : tie.After-runs-past;
+  else2 : tie.Else2;
+  after-next : tie.After-next;
+  after-make-frame : tie.After-make-frame;
+}
+way-store-all c =
+    let after-make-frame = c .before .before .before in
+    let else2 = after-make-frame .before .before in
+    let after-minus = else2 .before .before in
+    record {
+      after-pushed = after-minus .before .before;
+      after-minus = after-minus;
+      after-runs-past = else2 .before;
+      else2 = else2;
+      after-next = after-make-frame .before;
+      after-make-frame = after-make-frame;
+    }
+
 in-code-requires : tie.Need-in-code-requires
 in-code-requires c κs = search needs
 
@@ -30,7 +52,7 @@ abbrev from-minus : tie.After-minus → tie.Start
 from-minus c = from-test (c .before .before .before)
 
 abbrev from-stores : tie.After-store-all → tie.Start
-from-stores c = from-minus (c .before .before .before .before .before .before .before)
+from-stores c = from-minus (way-store-all c .after-minus)
 
 abbrev at-test : tie.After-store-all → tie.Else1
 at-test c = c .before .before .before .before .before .before .before .before .before .before
@@ -46,7 +68,9 @@ past : (c : tie.After-runs-past) → runsPast (from-minus (c .before) .args .sta
 past c = rw (← new-sp (c .before)) (sym (c .runs-past .ensures))
 
 fits : (c : tie.After-store-all) → runsPast (from-stores c .args .state) (newSp (from-stores c .args .state)) ≡ false
-fits c = past (c .before .before .before .before .before .before) ∙ c .before .before .before .before .before .if2 .left
+fits c =
+    let way = way-store-all c in
+    past (way .after-runs-past) ∙ way .else2 .if2 .left
 
 -- where addresses lead, and the pushes as the definition has them
 abbrev led : tie.After-store-all → Lookup
@@ -58,12 +82,13 @@ the-pushes c = pushes (from-stores c .args .framed) (from-stores c .args .span) 
 stored : (c : tie.After-store-all) → (c .store-all .result ≡ tryAll (led c) (the-pushes c))
     × (c .store-all .last .1 .1 .0 ≡ leftBy (c .store-all .result) (writtenAll (led c) (the-pushes c) (from-stores c .args .bytes .now)) (from-stores c .args .bytes .now))
 stored c =
+    let way = way-store-all c in
     rw (
       c .before .before .ordinary .ensures,
-      c .before .before .before .make-frame .ensures,
-      c .before .before .before .before .next .ensures,
-      new-sp (c .before .before .before .before .before .before .before),
-      c .before .before .before .before .before .before .before .before .before .pushed .ensures,
+      way .after-make-frame .make-frame .ensures,
+      way .after-next .next .ensures,
+      new-sp (way .after-minus),
+      way .after-pushed .pushed .ensures,
     )
     at (c .store-all .ensures)
 
@@ -92,8 +117,10 @@ fail-requires-2 c κs = search needs
 
 returns-2 : tie.Need-returns-2
 returns-2 c =
+    let then2 = c .before .before in
+    let else1 = then2 .before .before .before .before .before in
     rw (c .fail2 .ensures, c .before .fault2 .ensures)
-    (sym (stack-end _ _ _ _ _ _ (is-inside (c .before .before .before .before .before .before .before)) (past (c .before .before .before) ∙ c .before .before .if2 .taken)))
+    (sym (stack-end _ _ _ _ _ _ (is-inside else1) (past (then2 .before) ∙ then2 .if2 .taken)))
 
 next-requires : tie.Need-next-requires
 next-requires c κs = search needs
@@ -133,27 +160,29 @@ same-length c = search needs
 
 returns-3 : tie.Need-returns-3
 returns-3 c =
-    let stores = c .before .before .before .before .before .before .before in
-    let failed = c .before .before .before .access .given .1 in
-    rw (c .fail3 .ensures, c .before .blame .ensures, stored stores .1, failed)
-    (sym (not-pushed _ _ _ _ _ _ (is-inside (at-test stores)) (fits stores) _ _ (sym (stored stores .0) ∙ failed)))
+    let after-access = c .before .before .before in
+    let after-store-all = after-access .before .before .before .before in
+    let failed = after-access .access .given .1 in
+    rw (c .fail3 .ensures, c .before .blame .ensures, stored after-store-all .1, failed)
+    (sym (not-pushed _ _ _ _ _ _ (is-inside (at-test after-store-all)) (fits after-store-all) _ _ (sym (stored after-store-all .0) ∙ failed)))
 
 same-length-2 : tie.Need-same-length-2
 same-length-2 c = search needs
 
 returns-4 : tie.Need-returns-4
 returns-4 c =
-    let stores = c .before .before .before .before .before in
+    let after-store-all = c .before .before .before .before .before in
+    let way = way-store-all after-store-all in
     let all = c .before .enum-told .given .1 in
     rw (
       c .transfer .ensures,
-      new-sp (c .before .before .before .before .before .before .before .before .before .before .before .before),
-      c .before .before .before .before .before .before .before .before .make-frame .ensures,
-      c .before .before .before .before .before .before .before .before .before .next .ensures,
-      stored stores .1,
+      new-sp (way .after-minus),
+      way .after-make-frame .make-frame .ensures,
+      way .after-next .next .ensures,
+      stored after-store-all .1,
       all,
     )
-    (sym (pushed-all _ _ _ _ _ _ (is-inside (at-test stores)) (fits stores) (sym (stored stores .0) ∙ all)))
+    (sym (pushed-all _ _ _ _ _ _ (is-inside (at-test after-store-all)) (fits after-store-all) (sym (stored after-store-all .0) ∙ all)))
 
 pub execute-spec : {M : Type 1} → statement M
 execute-spec =

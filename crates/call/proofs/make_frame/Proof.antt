@@ -28,12 +28,14 @@ shadow-requires c κs = search needs
 returns-2 : tie.Need-returns-2
 unfolding frameOf
 returns-2 c =
+    let after-bytes = c .before .before in
+    let else1 = after-bytes .before .before in
     rw (
-      sym (c .before .before .before .before .before .pushes-frame .ensures) ∙ not-false _ (c .before .before .before .before .if1 .left),
+      sym (else1 .before .pushes-frame .ensures) ∙ not-false _ (else1 .if1 .left),
       c .shadow .ensures,
       c .before .minus .ensures,
-      c .before .before .bytes .ensures,
-      c .before .before .before .pushed .ensures,
+      after-bytes .bytes .ensures,
+      after-bytes .before .pushed .ensures,
     )
 
 pub make-frame-spec : {M : Type 1} → statement M

@@ -23,7 +23,13 @@ sub-minus c =
 cast-minus : tie.Need-cast-minus
 cast-minus c =
     let s = negative (c .before .args .by) (c .before .fits .by) (c .if1 .left) in
-    rw (toZ-ofZ w64 (c .before .args .by) (c .before .fits .by), s .z-is, below (s .n), toZ-pos w64 (s .n) (s .small)) (tt, record { fits = omega arith })
+    rw (
+      toZ-ofZ w64 (c .before .args .by) (c .before .fits .by),
+      s .z-is,
+      below (s .n),
+      toZ-pos w64 (s .n) (s .small),
+    )
+    (tt, record { fits = omega arith })
 
 add-minus : tie.Need-add-minus
 add-minus c =
@@ -35,13 +41,15 @@ minus-requires c κs = search needs
 
 returns : tie.Need-returns
 returns c =
-    let s = positive (c .before .before .args .by) (c .before .before .fits .by) (c .before .if1 .taken) in
-    rw (c .plus .ensures, toZ-ofZ w64 (c .before .before .args .by) (c .before .before .fits .by), s .z-is)
+    let start = c .before .before in
+    let s = positive (start .args .by) (start .fits .by) (c .before .if1 .taken) in
+    rw (c .plus .ensures, toZ-ofZ w64 (start .args .by) (start .fits .by), s .z-is)
 
 returns-2 : tie.Need-returns-2
 returns-2 c =
-    let s = negative (c .before .before .args .by) (c .before .before .fits .by) (c .before .if1 .left) in
-    rw (c .minus .ensures, toZ-ofZ w64 (c .before .before .args .by) (c .before .before .fits .by), s .z-is, below (s .n), toZ-pos w64 (s .n) (s .small))
+    let start = c .before .before in
+    let s = negative (start .args .by) (start .fits .by) (c .before .if1 .left) in
+    rw (c .minus .ensures, toZ-ofZ w64 (start .args .by) (start .fits .by), s .z-is, below (s .n), toZ-pos w64 (s .n) (s .small))
 
 pub moved-spec : {M : Type 1} → statement M
 moved-spec =

@@ -29,7 +29,10 @@ mul-buffer-2 : tie.Need-mul-buffer-2 Inv-loop μ-loop
 mul-buffer-2 c = search needs
 
 slice-write-buffer : tie.Need-slice-write-buffer Inv-loop μ-loop
-slice-write-buffer c = let h = c .before .loop-test .taken in let room = c .before .before .before .pre in rw (c .before .before .loop .inv .0, copied-length _ _ room _ (c .before .before .loop .inv .1)) (omega arith)
+slice-write-buffer c =
+    let at-loop = c .before .before in
+    let h = c .before .loop-test .taken in
+    let room = at-loop .before .pre in rw (at-loop .loop .inv .0, copied-length _ _ room _ (at-loop .loop .inv .1)) (omega arith)
 
 add-i : tie.Need-add-i Inv-loop μ-loop
 add-i c = search needs
@@ -38,7 +41,8 @@ loop-less : tie.Need-loop-less Inv-loop μ-loop
 loop-less c = search needs
 
 loop-again : tie.Need-loop-again Inv-loop μ-loop
-loop-again c = let h = c .before .loop-test .taken in let room = c .before .before .before .pre in (rw (c .before .before .loop .inv .0) (copied-turn _ _ room _ h), omega arith)
+loop-again c = let h = c .before .loop-test .taken in
+    let room = c .before .before .before .pre in (rw (c .before .before .loop .inv .0) (copied-turn _ _ room _ h), omega arith)
 
 same-length : tie.Need-same-length Inv-loop μ-loop
 same-length c = rw (c .before .loop .inv .0) (copied-length _ _ (c .before .before .pre) _ (c .before .loop .inv .1))

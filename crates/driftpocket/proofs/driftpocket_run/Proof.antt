@@ -25,7 +25,16 @@ same-length c = search needs
 
 returns-2 : tie.Need-returns-2
 unfolding crossed
-returns-2 c = rw (le-ltb _ _ (c .before .before .before .before .before .before .before .if1 .left), ne-eqb _ _ (c .before .before .before .before .before .before .if2 .taken), c .number .ensures, c .before .before .before .write-report .ensures, c .before .before .before .before .before .no-state .ensures)
+returns-2 c =
+    let after-write-report = c .before .before .before in
+    let after-no-state = after-write-report .before .before in
+    rw (
+      le-ltb _ _ (after-no-state .before .before .if1 .left),
+      ne-eqb _ _ (after-no-state .before .if2 .taken),
+      c .number .ensures,
+      after-write-report .write-report .ensures,
+      after-no-state .no-state .ensures,
+    )
 
 state-of-requires : tie.Need-state-of-requires
 state-of-requires c κs = search needs
@@ -53,7 +62,23 @@ same-length-4 c = search needs
 
 returns-3 : tie.Need-returns-3
 unfolding crossed
-returns-3 c = rw (le-ltb _ _ (c .before .before .before .before .before .before .before .before .before .before .before .before .before .before .before .before .if1 .left), eq-eqb _ _ (c .before .before .before .before .before .before .before .before .before .before .before .before .before .before .before .if2 .left), c .number2 .ensures, c .before .before .before .write-report2 .ensures, c .before .before .before .before .before .before .before .write-state .ensures, over-exactly (wordsOf (c .before .before .before .before .before .before .before .before .before .before .before .run .result .state)) (c .before .before .before .before .before .before .before .before .before .before .before .before .before .before .before .before .before .before .before .before .before .before .args .state .now) (c .before .before .before .before .before .before .before .before .before .before .before .before .before .before .before .if2 .left), ← c .before .before .before .before .before .before .before .before .before .before .before .before .before .state-of .ensures, ← c .before .before .before .before .before .before .before .before .before .before .before .run .ensures)
+returns-3 c =
+    let after-write-report2 = c .before .before .before in
+    let after-write-state = after-write-report2 .before .before .before .before in
+    let after-run = after-write-state .before .before .before .before in
+    let after-state-of = after-run .before .before in
+    let else2 = after-state-of .before .before in
+    let args = else2 .before .before .before .before .before .before .before .args in
+    rw (
+      le-ltb _ _ (else2 .before .if1 .left),
+      eq-eqb _ _ (else2 .if2 .left),
+      c .number2 .ensures,
+      after-write-report2 .write-report2 .ensures,
+      after-write-state .write-state .ensures,
+      over-exactly (wordsOf (after-run .run .result .state)) (args .state .now) (else2 .if2 .left),
+      ← after-state-of .state-of .ensures,
+      ← after-run .run .ensures,
+    )
 
 pub driftpocket-run-spec : {M : Type 1} → statement M
 driftpocket-run-spec =

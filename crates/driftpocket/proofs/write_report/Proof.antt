@@ -16,7 +16,10 @@ same-length : tie.Need-same-length
 same-length c = search needs
 
 returns : tie.Need-returns
-returns c = rw (← c .before .before .before .before .before .report .ensures) (c .before .before .copy .ensures)
+returns c =
+    let after-copy = c .before .before in
+    let after-report = after-copy .before .before .before in
+    rw (← after-report .report .ensures) (after-copy .copy .ensures)
 
 pub write-report-spec : {M : Type 1} → statement M
 write-report-spec =

@@ -16,7 +16,10 @@ same-length : tie.Need-same-length
 same-length c = search needs
 
 returns : tie.Need-returns
-returns c = rw (← c .before .before .before .before .before .words .ensures) (c .before .before .copy .ensures)
+returns c =
+    let after-copy = c .before .before in
+    let after-words = after-copy .before .before .before in
+    rw (← after-words .words .ensures) (after-copy .copy .ensures)
 
 pub write-state-spec : {M : Type 1} → statement M
 write-state-spec =

@@ -38,10 +38,11 @@ loop-less c = omega arith
 
 loop-again : tie.Need-loop-again Inv-loop μ-loop
 loop-again c =
-    let room : 0 + c .before .before .loop .i < length (c .before .before .loop .report) = omega arith in
+    let at-loop = c .before .before in
+    let room : 0 + at-loop .loop .i < length (at-loop .loop .report) = omega arith in
     let same : (n : ℕ) → 0 + n ≡ n = λ n. omega arith in
-    let turn = laid-element (c .before .before .loop .report) 0 (c .before .before .before .args .words .now) (c .before .before .loop .i) (c .before .loop-test .taken) room in
-    (c .before .before .loop .inv .0 ∙ simp same at turn, rw length-set (c .before .before .loop .inv .1))
+    let turn = laid-element (at-loop .loop .report) 0 (at-loop .before .args .words .now) (at-loop .loop .i) (c .before .loop-test .taken) room in
+    (at-loop .loop .inv .0 ∙ simp same at turn, rw length-set (at-loop .loop .inv .1))
 
 same-length : tie.Need-same-length Inv-loop μ-loop
 same-length c = c .before .loop .inv .1

@@ -41,7 +41,12 @@ same-length-5 c = search needs
 
 returns-2 : tie.Need-returns-2
 unfolding crossedRead
-returns-2 c = rw (le-ltb _ _ (c .before .before .before .before .before .before .before .before .before .before .before .before .before .before .before .before .before .before .before .if1 .left), ← c .before .before .before .before .before .before .before .before .before .before .before .before .before .before .read .ensures, c .before .before .copy .ensures, c .before .before .before .before .before .read-report .ensures)
+returns-2 c =
+    let after-copy = c .before .before in
+    let after-read-report = after-copy .before .before .before in
+    let after-read = after-read-report .before .before .before .before .before .before .before .before .before in
+    let else1 = after-read .before .before .before .before .before in
+    rw (le-ltb _ _ (else1 .if1 .left), ← after-read .read .ensures, after-copy .copy .ensures, after-read-report .read-report .ensures)
 
 pub driftpocket-sheet-read-spec : {M : Type 1} → statement M
 driftpocket-sheet-read-spec =

@@ -32,7 +32,16 @@ same-length-2 c = search needs
 
 returns-2 : tie.Need-returns-2
 unfolding crossedWrite
-returns-2 c = rw (le-ltb _ _ (c .before .before .before .before .before .before .before .before .before .before .if1 .left), ← c .before .before .before .before .before .before .before .before .write .ensures, c .before .before .copy .ensures, c .before .before .before .before .before .write-report .ensures)
+returns-2 c =
+    let after-copy = c .before .before in
+    let after-write-report = after-copy .before .before .before in
+    let after-write = after-write-report .before .before .before in
+    rw (
+      le-ltb _ _ (after-write .before .before .if1 .left),
+      ← after-write .write .ensures,
+      after-copy .copy .ensures,
+      after-write-report .write-report .ensures,
+    )
 
 pub driftpocket-sheet-write-spec : {M : Type 1} → statement M
 driftpocket-sheet-write-spec =

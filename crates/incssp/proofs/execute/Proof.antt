@@ -13,6 +13,26 @@ use Rattle.incssp.proofs.IncsspWays.{not-usable, first-blocked, none, l
 use Rattle.incssp.proofs.execute.Statement.{statement}
 use Rattle.incssp.proofs.execute.Tie as tie
 
+-- Of a place, the places on the way to it, called as `tie` calls them.
+abbrev way-else2 : tie.Else2 → record {
+  start : tie.Start;
+  else1 : tie.Else1;
+  after-bytes : tie.After-bytes;
+  after-plus : tie.After-plus;
+  after-load : tie.After-load;
+}
+way-else2 c =
+    let after-load = c .before .before .before in
+    let after-plus = after-load .before .before in
+    let else1 = after-plus .before .before in
+    record {
+      start = else1 .before .before .before .before;
+      else1 = else1;
+      after-bytes = after-plus .before;
+      after-plus = after-plus;
+      after-load = after-load;
+    }
+
 usable-requires : tie.Need-usable-requires
 usable-requires c κs = search needs
 
@@ -23,26 +43,35 @@ fail-requires : tie.Need-fail-requires
 fail-requires c κs = search needs
 
 -- what is known once the state is usable, once SSP's new value stands, and after each load
-is-usable : (c : tie.Else1) → usable (c .before .before .before .before .args .state) ≡ true
+is-usable : (c : tie.Else1) →
+    let args = c .before .before .before .before .args in
+    usable (args .state) ≡ true
 is-usable c = sym (c .before .usable .ensures) ∙ not-false _ (c .if1 .left)
 
-new-ssp : (c : tie.After-plus)
-    → c .plus .result
-    ≡ plus (c .before .before .before .before .before .before .args .state) (c .before .before .before .before .before .before .args .state .ssp)
-    (byteCount (c .before .before .before .before .before .before .args .size) * (c .before .before .before .before .before .before .args .b % 256))
+new-ssp : (c : tie.After-plus) →
+    let args = c .before .before .before .before .before .before .args in
+    c .plus .result
+    ≡ plus (args .state) (args .state .ssp)
+    (byteCount (args .size) * (args .b % 256))
 new-ssp c = rw (c .plus .ensures, c .before .bytes .ensures)
 
-first : (c : tie.After-load) → loadAt (lookupOf (c .before .before .before .before .before .before .before .before .args .pages .now) (c .before .before .before .before .before .before .before .before .args .bytes .now)) (c .before .before .before .before .before .before .before .before .args .bytes .now) (shadow (c .before .before .before .before .before .before .before .before .args .state) (c .before .before .before .before .before .before .before .before .args .state .ssp) (c .before .before .before .before .before .before .before .before .args .size) false) ≡ c .load .result
+first : (c : tie.After-load) →
+    let args = c .before .before .before .before .before .before .before .before .args in
+    loadAt (lookupOf (args .pages .now) (args .bytes .now)) (args .bytes .now) (shadow (args .state) (args .state .ssp) (args .size) false)
+    ≡ c .load .result
 first c = rw (← c .before .shadow .ensures) (sym (c .load .ensures))
 
-last-is : (c : tie.After-shadow2)
-    → c .shadow2 .result
-    ≡ shadow (c .before .before .before .before .before .before .before .before .before .before .before .before .before .args .state) (plus (c .before .before .before .before .before .before .before .before .before .before .before .before .before .args .state) (c .before .before .before .before .before .before .before .before .before .before .before .before .before .args .state .ssp) (byteCount (c .before .before .before .before .before .before .before .before .before .before .before .before .before .args .size) * (c .before .before .before .before .before .before .before .before .before .before .before .before .before .args .b % 256 - 1))) (c .before .before .before .before .before .before .before .before .before .before .before .before .before .args .size) false
-last-is c = rw (c .shadow2 .ensures, c .before .plus2 .ensures, c .before .before .before .before .before .before .before .before .bytes .ensures)
+last-is : (c : tie.After-shadow2) →
+    let args = way-else2 (c .before .before) .start .args in
+    c .shadow2 .result
+    ≡ shadow (args .state) (plus (args .state) (args .state .ssp) (byteCount (args .size) * (args .b % 256 - 1))) (args .size) false
+last-is c = rw (c .shadow2 .ensures, c .before .plus2 .ensures, way-else2 (c .before .before) .after-bytes .bytes .ensures)
 
-last : (c : tie.After-load2)
-    → loadAt (lookupOf (c .before .before .before .before .before .before .before .before .before .before .before .before .before .before .args .pages .now) (c .before .before .before .before .before .before .before .before .before .before .before .before .before .before .args .bytes .now)) (c .before .before .before .before .before .before .before .before .before .before .before .before .before .before .args .bytes .now)
-    (shadow (c .before .before .before .before .before .before .before .before .before .before .before .before .before .before .args .state) (plus (c .before .before .before .before .before .before .before .before .before .before .before .before .before .before .args .state) (c .before .before .before .before .before .before .before .before .before .before .before .before .before .before .args .state .ssp) (byteCount (c .before .before .before .before .before .before .before .before .before .before .before .before .before .before .args .size) * (c .before .before .before .before .before .before .before .before .before .before .before .before .before .before .args .b % 256 - 1))) (c .before .before .before .before .before .before .before .before .before .before .before .before .before .before .args .size) false)
+last : (c : tie.After-load2) →
+    let else2 = c .before .before .before in
+    let args = way-else2 else2 .start .args in
+    loadAt (lookupOf (args .pages .now) (args .bytes .now)) (args .bytes .now)
+    (shadow (args .state) (plus (args .state) (args .state .ssp) (byteCount (args .size) * (args .b % 256 - 1))) (args .size) false)
     ≡ c .load2 .result
 last c = rw (← last-is (c .before)) (sym (c .load2 .ensures))
 
@@ -55,7 +84,9 @@ bytes-requires : tie.Need-bytes-requires
 bytes-requires c κs = search needs
 
 mul-plus : tie.Need-mul-plus
-mul-plus c = rw (c .bytes .ensures) (record { fits = product (c .before .before .before .before .before .args .size) (c .before .before .before .before .before .args .b % 256) (omega arith) })
+mul-plus c =
+    let args = c .before .before .before .before .before .args in
+    rw (c .bytes .ensures) (record { fits = product (args .size) (args .b % 256) (omega arith) })
 
 plus-requires : tie.Need-plus-requires
 plus-requires c κs = search needs
@@ -86,14 +117,20 @@ shift-requires c κs = search needs
 
 returns-2 : tie.Need-returns-2
 returns-2 c =
-    rw (c .shift .ensures, c .before .next .ensures, new-ssp (c .before .before .before .before .before .before .before))
-    (sym (none _ _ _ _ _ _ (is-usable (c .before .before .before .before .before .before .before .before .before)) _ (first (c .before .before .before .before .before) ∙ c .before .before .before .enum-told .given .1) (c .before .before .if2 .taken)))
+    let then2 = c .before .before in
+    let after-load = then2 .before .before .before in
+    let after-plus = after-load .before .before in
+    let else1 = after-plus .before .before in
+    rw (c .shift .ensures, c .before .next .ensures, new-ssp after-plus)
+    (sym (none _ _ _ _ _ _ (is-usable else1) _ (first after-load ∙ then2 .before .enum-told .given .1) (then2 .if2 .taken)))
 
 sub-plus : tie.Need-sub-plus
 sub-plus c = search needs
 
 mul-plus-2 : tie.Need-mul-plus-2
-mul-plus-2 c = rw (c .before .before .before .before .before .before .bytes .ensures) (record { fits = product (c .before .before .before .before .before .before .before .before .before .before .before .args .size) (c .before .before .before .before .before .before .before .before .before .before .before .args .b % 256 - 1) (omega arith) })
+mul-plus-2 c =
+    let way = way-else2 c in
+    rw (way .after-bytes .bytes .ensures) (record { fits = product (way .start .args .size) (way .start .args .b % 256 - 1) (omega arith) })
 
 plus-requires-2 : tie.Need-plus-requires-2
 plus-requires-2 c κs = search needs
@@ -124,18 +161,31 @@ shift-requires-2 c κs = search needs
 
 returns-3 : tie.Need-returns-3
 returns-3 c =
-    rw (c .fail2 .ensures, c .before .blame .ensures, c .before .before .before .before .before .before .shadow .ensures)
-    (sym (first-blocked _ _ _ _ _ _ (is-usable (c .before .before .before .before .before .before .before .before .before)) _ (first (c .before .before .before .before .before) ∙ c .before .before .before .failure .given .1)))
+    let after-failure = c .before .before .before in
+    let after-load = after-failure .before .before in
+    let else1 = after-load .before .before .before .before in
+    rw (c .fail2 .ensures, c .before .blame .ensures, after-load .before .shadow .ensures)
+    (sym (first-blocked _ _ _ _ _ _ (is-usable else1) _ (first after-load ∙ after-failure .failure .given .1)))
 
 returns-4 : tie.Need-returns-4
 returns-4 c =
-    rw (c .fail3 .ensures, c .before .blame2 .ensures, last-is (c .before .before .before .before .before .before))
-    (sym (last-blocked _ _ _ _ _ _ (is-usable (c .before .before .before .before .before .before .before .before .before .before .before .before .before .before .before)) _ (first (c .before .before .before .before .before .before .before .before .before .before .before) ∙ c .before .before .before .before .before .before .before .before .before .enum-told .given .1) (c .before .before .before .before .before .before .before .before .if2 .left) _ (last (c .before .before .before .before .before) ∙ c .before .before .before .failure2 .given .1)))
+    let after-failure2 = c .before .before .before in
+    let after-load2 = after-failure2 .before .before in
+    let else2 = after-load2 .before .before .before in
+    let way = way-else2 else2 in
+    rw (c .fail3 .ensures, c .before .blame2 .ensures, last-is (after-load2 .before))
+    (sym (last-blocked _ _ _ _ _ _ (is-usable (way .else1)) _ (first (way .after-load) ∙ else2 .before .enum-told .given .1) (else2 .if2 .left) _
+    (last after-load2 ∙ after-failure2 .failure2 .given .1)))
 
 returns-5 : tie.Need-returns-5
 returns-5 c =
-    rw (c .shift2 .ensures, c .before .next2 .ensures, new-ssp (c .before .before .before .before .before .before .before .before .before .before .before .before))
-    (sym (popped _ _ _ _ _ _ (is-usable (c .before .before .before .before .before .before .before .before .before .before .before .before .before .before)) _ (first (c .before .before .before .before .before .before .before .before .before .before) ∙ c .before .before .before .before .before .before .before .before .enum-told .given .1) (c .before .before .before .before .before .before .before .if2 .left) _ (last (c .before .before .before .before) ∙ c .before .before .enum-told2 .given .1)))
+    let after-enum-told2 = c .before .before in
+    let after-load2 = after-enum-told2 .before .before in
+    let else2 = after-load2 .before .before .before in
+    let way = way-else2 else2 in
+    rw (c .shift2 .ensures, c .before .next2 .ensures, new-ssp (way .after-plus))
+    (sym (popped _ _ _ _ _ _ (is-usable (way .else1)) _ (first (way .after-load) ∙ else2 .before .enum-told .given .1) (else2 .if2 .left) _
+    (last after-load2 ∙ after-enum-told2 .enum-told2 .given .1)))
 
 pub execute-spec : {M : Type 1} → statement M
 execute-spec =

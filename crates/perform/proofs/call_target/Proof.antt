@@ -17,7 +17,7 @@ returns : tie.Need-returns
 returns c = rw (c .before .enum-told .given .1) (c .relative .ensures)
 
 returns-2 : tie.Need-returns-2
-returns-2 c = search needs
+returns-2 c = rw (c .enum-told2 .given .1)
 
 pub call-target-spec : {M : Type 1} → statement M
 call-target-spec = tie.close (tie.spec enum-told relative-requires enum-told-2 returns returns-2)

@@ -71,25 +71,40 @@ same-length-2 : tie.Need-same-length-2
 same-length-2 c = search needs
 
 returns-2 : tie.Need-returns-2
-returns-2 c = rw (c .before .before .before .before .enum-told .given .1) (c .before .before .execute2 .ensures)
+returns-2 c =
+    let after-execute2 = c .before .before in
+    rw (after-execute2 .before .before .enum-told .given .1) (after-execute2 .execute2 .ensures)
 
 same-length-3 : tie.Need-same-length-3
 same-length-3 c = search needs
 
 returns-3 : tie.Need-returns-3
-returns-3 c = rw (c .before .before .before .before .enum-told2 .given .1) (c .before .before .execute3 .ensures)
+returns-3 c =
+    let after-execute3 = c .before .before in
+    rw (after-execute3 .before .before .enum-told2 .given .1) (after-execute3 .execute3 .ensures)
 
 same-length-4 : tie.Need-same-length-4
 same-length-4 c = search needs
 
 returns-4 : tie.Need-returns-4
-returns-4 c = rw (c .before .before .before .before .before .operation2 .given .1) (c .before .before .execute4 .ensures)
+returns-4 c =
+    let after-execute4 = c .before .before in
+    let after-operation2 = after-execute4 .before .before .before in
+    rw (after-operation2 .operation2 .given .1) (after-execute4 .execute4 .ensures)
 
 same-length-5 : tie.Need-same-length-5
 same-length-5 c = search needs
 
 returns-5 : tie.Need-returns-5
-returns-5 c = rw (c .before .before .before .before .before .before .before .operation3 .given .1, ← c .before .before .before .before .before .call-target .ensures, ← c .before .before .before .framed .ensures) (c .before .before .execute5 .ensures)
+returns-5 c =
+    let after-execute5 = c .before .before in
+    let after-call-target = after-execute5 .before .before .before in
+    rw (
+      after-call-target .before .before .operation3 .given .1,
+      ← after-call-target .call-target .ensures,
+      ← after-execute5 .before .framed .ensures,
+    )
+    (after-execute5 .execute5 .ensures)
 
 same-length-6 : tie.Need-same-length-6
 same-length-6 c = search needs
@@ -101,7 +116,10 @@ same-length-7 : tie.Need-same-length-7
 same-length-7 c = search needs
 
 returns-7 : tie.Need-returns-7
-returns-7 c = rw (c .before .before .before .before .before .operation4 .given .1) (c .before .before .execute7 .ensures)
+returns-7 c =
+    let after-execute7 = c .before .before in
+    let after-operation4 = after-execute7 .before .before .before in
+    rw (after-operation4 .operation4 .given .1) (after-execute7 .execute7 .ensures)
 
 returns-8 : tie.Need-returns-8
 unfolding operate interp

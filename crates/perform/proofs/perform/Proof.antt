@@ -20,7 +20,12 @@ refuse-requires c κs = search needs
 returns : tie.Need-returns
 unfolding perform
 returns c =
-    rw (form-fits _ (c .before .before .before .before .before .before .args .state) _ _ (c .before .before .before .of .ensures) (sym (c .before .before .fits2 .ensures) ∙ not-true _ (c .before .if1 .taken)), c .refuse .ensures)
+    let after-fits2 = c .before .before in
+    let args = after-fits2 .before .before .before .before .args in
+    rw (
+      form-fits _ (args .state) _ _ (after-fits2 .before .of .ensures) (sym (after-fits2 .fits2 .ensures) ∙ not-true _ (c .before .if1 .taken)),
+      c .refuse .ensures,
+    )
 
 permitted-requires : tie.Need-permitted-requires
 permitted-requires c κs = search needs
@@ -39,15 +44,21 @@ same-length c = search needs
 
 returns-2 : tie.Need-returns-2
 returns-2 c =
+    let after-dispatch = c .before .before .before in
+    let after-hidden = after-dispatch .before .before in
+    let else1 = after-hidden .before .before in
+    let after-of = else1 .before .before in
+    let args = after-of .before .before .before .args in
     rw (
       c .unhide .ensures,
-      performed codes _ _ (c .before .before .before .before .before .before .before .before .before .before .before .before .args .state) _ (form-fits _ _ _ _ (c .before .before .before .before .before .before .before .before .before .of .ensures) (sym (c .before .before .before .before .before .before .before .before .fits2 .ensures) ∙ not-false _ (c .before .before .before .before .before .before .before .if1 .left))),
+      performed codes _ _ (args .state) _
+          (form-fits _ _ _ _ (after-of .of .ensures) (sym (else1 .before .fits2 .ensures) ∙ not-false _ (else1 .if1 .left))),
       built-whole,
-      ← c .before .before .before .before .before .before .before .before .before .of .ensures,
-      ← c .before .before .before .before .before .before .permitted .ensures,
-      ← c .before .before .before .before .before .hidden .ensures,
+      ← after-of .of .ensures,
+      ← after-hidden .before .permitted .ensures,
+      ← after-hidden .hidden .ensures,
     )
-    (ap (backFrom _) (c .before .before .before .dispatch .ensures))
+    (ap (backFrom _) (after-dispatch .dispatch .ensures))
 
 pub perform-spec : {M : Type 1} → statement M
 perform-spec =

@@ -17,6 +17,13 @@ use Rattle.ret.proofs.RetWays.{stack-end, pop-blocked, frame-failed, ou
 use Rattle.ret.proofs.execute.Statement.{statement}
 use Rattle.ret.proofs.execute.Tie as tie
 
+-- Of a place, the places on the way to it, called as `tie` calls them.
+abbrev way-new-ssp : tie.After-new-ssp → record { else1 : tie.Else1; after-pushed : tie.After-pushed; after-load : tie.After-load }
+way-new-ssp c =
+    let after-load = c .before .before .before .before in
+    let after-pushed = after-load .before .before in
+    record { else1 = after-pushed .before; after-pushed = after-pushed; after-load = after-load }
+
 -- the entry, from the places at which something is known
 abbrev from-test : tie.Else1 → tie.Start
 from-test c = c .before .before .before .before
@@ -25,7 +32,7 @@ abbrev from-load : tie.After-load → tie.Start
 from-load c = from-test (c .before .before .before)
 
 abbrev from-frame : tie.After-new-ssp → tie.Start
-from-frame c = from-load (c .before .before .before .before)
+from-frame c = from-load (way-new-ssp c .after-load)
 
 -- where addresses lead, and the pop off the ordinary stack as the definition has it
 abbrev led : tie.Start → Lookup
@@ -45,7 +52,8 @@ loaded c = rw (← stack-load c) (sym (c .load .ensures))
 
 -- and the pop off the shadow stack, by the way that it went
 abbrev the-frame : tie.After-new-ssp → Result ℕ
-the-frame c = interp (led (from-frame c)) (newSsp (from-frame c .args .state) (c .before .before .target .given .0 .0)) (from-frame c .args .bytes .now)
+the-frame c =
+    interp (led (from-frame c)) (newSsp (from-frame c .args .state) (c .before .before .target .given .0 .0)) (from-frame c .args .bytes .now)
 
 went : (c : tie.After-new-ssp) (p : Popped) → c .new-ssp .result ≡ p → the-frame c ≡ resultOf p (from-frame c .args .bytes .now)
 went c p e = sym (c .new-ssp .ensures) ∙ ap (λ (q : Popped). resultOf q (from-frame c .args .bytes .now)) e
@@ -108,13 +116,15 @@ fail-requires-4 c κs = search needs
 
 returns-2 : tie.Need-returns-2
 returns-2 c =
-    let ssp = c .before .before .before .before .before in
-    let target = ssp .before .before .before .before in
-    let popped = loaded (target .before .before) ∙ target .target .given .1 in
-    let topped = went (ssp .before .before) _ (ssp .ssp .given .1) in
-    let tested = sym (c .before .before .before .in-code .ensures) ∙ not-true _ (c .before .before .if2 .taken) in
+    let then2 = c .before .before in
+    let after-ssp = then2 .before .before .before in
+    let after-new-ssp = after-ssp .before .before in
+    let way = way-new-ssp after-new-ssp in
+    let popped = loaded (way .after-load) ∙ after-new-ssp .before .before .target .given .1 in
+    let topped = went after-new-ssp _ (after-ssp .ssp .given .1) in
+    let tested = sym (then2 .before .in-code .ensures) ∙ not-true _ (then2 .if2 .taken) in
     rw (c .fail4 .ensures, c .before .fault3 .ensures)
-    (sym (outside _ _ _ _ (is-inside (target .before .before .before .before .before)) _ popped _ topped tested))
+    (sym (outside _ _ _ _ (is-inside (way .else1)) _ popped _ topped tested))
 
 bytes-requires : tie.Need-bytes-requires
 bytes-requires c κs = search needs
@@ -130,32 +140,39 @@ transfer-requires c κs = search needs
 
 returns-3 : tie.Need-returns-3
 returns-3 c =
-    let load = c .before .before .before .before .before in
-    rw (c .fail2 .ensures, c .before .blame .ensures, stack-load load)
-    (sym (pop-blocked _ _ _ _ (is-inside (load .before .before .before)) _ (loaded load ∙ c .before .before .before .failure .given .1)))
+    let after-failure = c .before .before .before in
+    let after-load = after-failure .before .before in
+    let else1 = after-load .before .before .before in
+    rw (c .fail2 .ensures, c .before .blame .ensures, stack-load after-load)
+    (sym (pop-blocked _ _ _ _ (is-inside else1) _ (loaded after-load ∙ after-failure .failure .given .1)))
 
 returns-4 : tie.Need-returns-4
 returns-4 c =
-    let target = c .before .before .before .before .before .before in
-    let popped = loaded (target .before .before) ∙ target .target .given .1 in
+    let after-fault2 = c .before .before in
+    let after-new-ssp = after-fault2 .before .before in
+    let way = way-new-ssp after-new-ssp in
+    let popped = loaded (way .after-load) ∙ after-new-ssp .before .before .target .given .1 in
     rw (c .fail3 .ensures)
-    (sym (frame-failed _ _ _ _ (is-inside (target .before .before .before .before .before)) _ popped _ (went (c .before .before .before .before) _ (c .before .before .fault2 .given .1))))
+    (sym (frame-failed _ _ _ _ (is-inside (way .else1)) _ popped _ (went after-new-ssp _ (after-fault2 .fault2 .given .1))))
 
 returns-5 : tie.Need-returns-5
 returns-5 c =
-    let ssp = c .before .before .before .before .before .before .before in
-    let target = ssp .before .before .before .before in
-    let popped = loaded (target .before .before) ∙ target .target .given .1 in
-    let topped = went (ssp .before .before) _ (ssp .ssp .given .1) in
-    let tested = sym (c .before .before .before .before .before .in-code .ensures) ∙ not-false _ (c .before .before .before .before .if2 .left) in
+    let after-plus = c .before .before in
+    let else2 = after-plus .before .before in
+    let after-ssp = else2 .before .before .before in
+    let after-new-ssp = after-ssp .before .before in
+    let way = way-new-ssp after-new-ssp in
+    let popped = loaded (way .after-load) ∙ after-new-ssp .before .before .target .given .1 in
+    let topped = went after-new-ssp _ (after-ssp .ssp .given .1) in
+    let tested = sym (else2 .before .in-code .ensures) ∙ not-false _ (else2 .if2 .left) in
     rw (
       c .transfer .ensures,
       c .before .plus2 .ensures,
-      c .before .before .plus .ensures,
-      c .before .before .before .bytes .ensures,
-      c .before .before .before .before .before .before .before .before .before .before .before .before .before .before .before .pushed .ensures,
+      after-plus .plus .ensures,
+      after-plus .before .bytes .ensures,
+      way .after-pushed .pushed .ensures,
     )
-    (sym (returned _ _ _ _ (is-inside (target .before .before .before .before .before)) _ popped _ topped tested))
+    (sym (returned _ _ _ _ (is-inside (way .else1)) _ popped _ topped tested))
 
 pub execute-spec : {M : Type 1} → statement M
 execute-spec =

@@ -67,19 +67,27 @@ control-fault-requires c κs = search needs
 
 returns-2 : tie.Need-returns-2
 returns-2 c =
-    let load = c .before .before .before .before in
-    rw (c .blame .ensures, frame-load load) (sym (frame-blocked _ _ _ _ (is-on (load .before .before .before)) _ (found load ∙ c .before .before .failure .given .1)))
+    let after-failure = c .before .before in
+    let after-load = after-failure .before .before in
+    let else1 = after-load .before .before .before in
+    rw (c .blame .ensures, frame-load after-load) (sym (frame-blocked _ _ _ _ (is-on else1) _ (found after-load ∙ after-failure .failure .given .1)))
 
 returns-3 : tie.Need-returns-3
 returns-3 c =
-    let load = c .before .before .before .before .before .before in
-    rw (c .plus .ensures, c .before .bytes .ensures, c .before .before .before .before .before .before .before .before .pushed .ensures)
-    (sym (frame-popped _ _ _ _ (is-on (load .before .before .before)) _ (found load ∙ c .before .before .before .before .frame .given .1) (c .before .before .if2 .taken)))
+    let then2 = c .before .before in
+    let after-frame = then2 .before .before in
+    let after-load = after-frame .before .before in
+    let after-pushed = after-load .before .before in
+    rw (c .plus .ensures, c .before .bytes .ensures, after-pushed .pushed .ensures)
+    (sym (frame-popped _ _ _ _ (is-on (after-pushed .before)) _ (found after-load ∙ after-frame .frame .given .1) (then2 .if2 .taken)))
 
 returns-4 : tie.Need-returns-4
 returns-4 c =
-    let load = c .before .before .before .before .before in
-    rw (c .control-fault .ensures) (sym (frame-differs _ _ _ _ (is-on (load .before .before .before)) _ (found load ∙ c .before .before .before .frame .given .1) (c .before .if2 .left)))
+    let after-frame = c .before .before .before in
+    let after-load = after-frame .before .before in
+    let else1 = after-load .before .before .before in
+    rw (c .control-fault .ensures)
+    (sym (frame-differs _ _ _ _ (is-on else1) _ (found after-load ∙ after-frame .frame .given .1) (c .before .if2 .left)))
 
 pub new-ssp-spec : {M : Type 1} → statement M
 new-ssp-spec =

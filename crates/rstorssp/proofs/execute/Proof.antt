@@ -14,6 +14,12 @@ use Rattle.rstorssp.proofs.RstorsspWays.{not-usable, not-aligned, block
 use Rattle.rstorssp.proofs.execute.Statement.{statement}
 use Rattle.rstorssp.proofs.execute.Tie as tie
 
+-- Of a place, the places on the way to it, called as `tie` calls them.
+abbrev way-load : tie.After-load → record { start : tie.Start; else1 : tie.Else1; else2 : tie.Else2 }
+way-load c =
+    let else2 = c .before .before .before in
+    record { start = else2 .before .before .before .before .before; else1 = else2 .before; else2 = else2 }
+
 usable-requires : tie.Need-usable-requires
 usable-requires c κs = search needs
 
@@ -24,10 +30,14 @@ fail-requires : tie.Need-fail-requires
 fail-requires c κs = search needs
 
 -- what is known after each test, and after the load
-is-usable : (c : tie.Else1) → usable (c .before .before .before .before .args .state) ≡ true
+is-usable : (c : tie.Else1) →
+    let args = c .before .before .before .before .args in
+    usable (args .state) ≡ true
 is-usable c = sym (c .before .usable .ensures) ∙ not-false _ (c .if1 .left)
 
-found : (c : tie.After-load) → loadAt (lookupOf (c .before .before .before .before .before .before .before .before .args .pages .now) (c .before .before .before .before .before .before .before .before .args .bytes .now)) (c .before .before .before .before .before .before .before .before .args .bytes .now) (shadow (c .before .before .before .before .before .before .before .before .args .state) (c .before .before .before .before .before .before .before .before .args .a) Eight true) ≡ c .load .result
+found : (c : tie.After-load) →
+    let args = way-load c .start .args in
+    loadAt (lookupOf (args .pages .now) (args .bytes .now)) (args .bytes .now) (shadow (args .state) (args .a) Eight true) ≡ c .load .result
 found c = rw (← c .before .before .shadow .ensures) (sym (c .load .ensures))
 
 returns : tie.Need-returns
@@ -78,14 +88,21 @@ same-length c = search needs
 
 returns-3 : tie.Need-returns-3
 returns-3 c =
+    let then3 = c .before .before in
+    let after-token = then3 .before .before .before in
+    let after-load = after-token .before .before in
+    let way = way-load after-load in
     rw (c .fail4 .ensures, c .before .control-fault .ensures)
-    (sym (bad-token _ _ _ _ _ (is-usable (c .before .before .before .before .before .before .before .before .before .before .before)) (c .before .before .before .before .before .before .before .before .before .before .if2 .left) _ (found (c .before .before .before .before .before .before .before) ∙ c .before .before .before .before .before .token .given .1) (sym (c .before .before .before .good-token .ensures) ∙ not-true _ (c .before .before .if3 .taken))))
+    (sym (bad-token _ _ _ _ _ (is-usable (way .else1)) (way .else2 .if2 .left) _ (found after-load ∙ after-token .token .given .1)
+    (sym (then3 .before .good-token .ensures) ∙ not-true _ (then3 .if3 .taken))))
 
 long-bit-requires : tie.Need-long-bit-requires
 long-bit-requires c κs = search needs
 
 add-plus : tie.Need-add-plus
-add-plus c = omega (arith, c .long-bit .ensures, long-small (c .before .before .before .before .before .before .before .before .before .before .before .before .before .before .args .state))
+add-plus c =
+    let after-load = c .before .before .before .before .before .before in
+    omega (arith, c .long-bit .ensures, long-small (way-load after-load .start .args .state))
 
 plus-requires : tie.Need-plus-requires
 plus-requires c κs = search needs
@@ -107,26 +124,37 @@ same-length-2 c = search needs
 
 returns-4 : tie.Need-returns-4
 returns-4 c =
-    rw (c .fail3 .ensures, c .before .blame .ensures, c .before .before .before .before .before .before .before .shadow .ensures)
-    (sym (blocked _ _ _ _ _ (is-usable (c .before .before .before .before .before .before .before .before .before)) (c .before .before .before .before .before .before .before .before .if2 .left) _ (found (c .before .before .before .before .before) ∙ c .before .before .before .failure .given .1)))
+    let after-failure = c .before .before .before in
+    let after-load = after-failure .before .before in
+    let way = way-load after-load in
+    rw (c .fail3 .ensures, c .before .blame .ensures, after-load .before .before .shadow .ensures)
+    (sym (blocked _ _ _ _ _ (is-usable (way .else1)) (way .else2 .if2 .left) _ (found after-load ∙ after-failure .failure .given .1)))
 
 same-length-3 : tie.Need-same-length-3
 same-length-3 c = search needs
 
 returns-5 : tie.Need-returns-5
 returns-5 c =
-    let value = found (c .before .before .before .before .before .before .before .before .before .before .before .before .before .before) ∙ c .before .before .before .before .before .before .before .before .before .before .before .before .token .given .1 in
+    let after-restored-flags = c .before .before in
+    let after-store = after-restored-flags .before .before .before in
+    let after-plus = after-store .before .before in
+    let else3 = after-plus .before .before in
+    let after-token = else3 .before .before .before in
+    let after-load = after-token .before .before in
+    let way = way-load after-load in
+    let value = found after-load ∙ after-token .token .given .1 in
     rw (
       c .restore .ensures,
       c .before .next .ensures,
-      c .before .before .restored-flags .ensures,
-      c .before .before .before .before .before .store .ensures .1,
-      c .before .before .before .before .before .before .before .before .before .before .before .before .before .before .before .before .shadow .ensures,
-      c .before .before .before .before .before .before .before .plus .ensures,
-      c .before .before .before .before .before .before .before .before .long-bit .ensures,
+      after-restored-flags .restored-flags .ensures,
+      after-store .store .ensures .1,
+      after-load .before .before .shadow .ensures,
+      after-plus .plus .ensures,
+      after-plus .before .long-bit .ensures,
       store-done _ _ _ _ (loaded-value _ _ _ _ value .0),
     )
-    (sym (restored _ _ _ _ _ (is-usable (c .before .before .before .before .before .before .before .before .before .before .before .before .before .before .before .before .before .before)) (c .before .before .before .before .before .before .before .before .before .before .before .before .before .before .before .before .before .if2 .left) _ value (sym (c .before .before .before .before .before .before .before .before .before .before .good-token .ensures) ∙ not-false _ (c .before .before .before .before .before .before .before .before .before .if3 .left))))
+    (sym (restored _ _ _ _ _ (is-usable (way .else1)) (way .else2 .if2 .left) _ value
+    (sym (else3 .before .good-token .ensures) ∙ not-false _ (else3 .if3 .left))))
 
 pub execute-spec : {M : Type 1} → statement M
 execute-spec =

@@ -14,12 +14,18 @@ long-bit-requires : tie.Need-long-bit-requires
 long-bit-requires c κs = search needs
 
 -- the first condition holds
-low-bits : (c : tie.Else1) → eqb (c .before .before .args .token % 4) (longBit (c .before .before .args .state)) ≡ true
-low-bits c = eq-eqb (c .before .before .args .token % 4) (longBit (c .before .before .args .state)) (c .if1 .left ∙ c .before .long-bit .ensures)
+low-bits : (c : tie.Else1) →
+    let args = c .before .before .args in
+    eqb (args .token % 4) (longBit (args .state)) ≡ true
+low-bits c =
+    let args = c .before .before .args in
+    eq-eqb (args .token % 4) (longBit (args .state)) (c .if1 .left ∙ c .before .long-bit .ensures)
 
 returns : tie.Need-returns
 unfolding goodToken
-returns c = rw (ne-eqb (c .before .before .args .token % 4) (longBit (c .before .before .args .state)) (λ e. c .if1 .taken (e ∙ sym (c .before .long-bit .ensures))))
+returns c =
+    let args = c .before .before .args in
+    rw (ne-eqb (args .token % 4) (longBit (args .state)) (λ e. c .if1 .taken (e ∙ sym (c .before .long-bit .ensures))))
 
 is-long-requires : tie.Need-is-long-requires
 is-long-requires c κs = search needs
@@ -40,7 +46,15 @@ home-requires-2 c κs = search needs
 
 returns-4 : tie.Need-returns-4
 unfolding goodToken
-returns-4 c = rw (low-bits (c .before .before .before .before), sym (c .before .before .before .is-long .ensures) ∙ c .before .before .if2 .left, lt-ltb _ _ (c .before .if3 .left), c .home2 .ensures)
+returns-4 c =
+    let else2 = c .before .before in
+    let after-is-long = else2 .before in
+    rw (
+      low-bits (after-is-long .before),
+      sym (after-is-long .is-long .ensures) ∙ else2 .if2 .left,
+      lt-ltb _ _ (c .before .if3 .left),
+      c .home2 .ensures,
+    )
 
 pub good-token-spec : {M : Type 1} → statement M
 good-token-spec =

@@ -12,6 +12,12 @@ use Rattle.saveprevssp.proofs.SaveprevsspWays.{not-usable, not-aligned,
 use Rattle.saveprevssp.proofs.execute.Statement.{statement}
 use Rattle.saveprevssp.proofs.execute.Tie as tie
 
+-- Of a place, the places on the way to it, called as `tie` calls them.
+abbrev way-load : tie.After-load → record { else1 : tie.Else1; else2 : tie.Else2 }
+way-load c =
+    let else2 = c .before .before .before in
+    record { else1 = else2 .before .before; else2 = else2 }
+
 usable-requires : tie.Need-usable-requires
 usable-requires c κs = search needs
 
@@ -26,7 +32,7 @@ abbrev from-test : tie.Else1 → tie.Start
 from-test c = c .before .before .before .before
 
 abbrev from-load : tie.After-load → tie.Start
-from-load c = from-test (c .before .before .before .before .before)
+from-load c = from-test (way-load c .else1)
 
 abbrev pop : tie.Start → Access
 pop c = shadow (c .args .state) (c .args .state .ssp) Eight false
@@ -50,8 +56,10 @@ fail-requires-2 c κs = search needs
 
 returns-2 : tie.Need-returns-2
 returns-2 c =
+    let then2 = c .before .before in
+    let else1 = then2 .before .before in
     rw (c .fail2 .ensures, c .before .fault2 .ensures)
-    (sym (not-aligned _ _ _ _ (is-usable (c .before .before .before .before)) (c .before .before .if2 .taken)))
+    (sym (not-aligned _ _ _ _ (is-usable else1) (then2 .if2 .taken)))
 
 shadow-requires : tie.Need-shadow-requires
 shadow-requires c κs = search needs
@@ -79,19 +87,23 @@ same-length c = search needs
 
 returns-3 : tie.Need-returns-3
 returns-3 c =
-    let load = c .before .before .before .before .before in
-    rw (c .fail3 .ensures, c .before .blame .ensures, c .before .before .before .before .before .before .before .shadow .ensures)
-    (sym (blocked _ _ _ _ (is-usable (load .before .before .before .before .before)) (load .before .before .before .if2 .left) _ (found load ∙ c .before .before .before .failure .given .1)))
+    let after-failure = c .before .before .before in
+    let after-load = after-failure .before .before in
+    let way = way-load after-load in
+    rw (c .fail3 .ensures, c .before .blame .ensures, after-load .before .before .shadow .ensures)
+    (sym (blocked _ _ _ _ (is-usable (way .else1)) (way .else2 .if2 .left) _ (found after-load ∙ after-failure .failure .given .1)))
 
 same-length-2 : tie.Need-same-length-2
 same-length-2 c = search needs
 
 returns-4 : tie.Need-returns-4
 returns-4 c =
-    let token = c .before .before .before .before .before in
-    let load = token .before .before in
-    c .before .before .leave-token .ensures
-    ∙ sym (popped _ _ _ _ (is-usable (load .before .before .before .before .before)) (load .before .before .before .if2 .left) _ (found load ∙ token .token .given .1))
+    let after-leave-token = c .before .before in
+    let after-token = after-leave-token .before .before .before in
+    let after-load = after-token .before .before in
+    let way = way-load after-load in
+    after-leave-token .leave-token .ensures
+    ∙ sym (popped _ _ _ _ (is-usable (way .else1)) (way .else2 .if2 .left) _ (found after-load ∙ after-token .token .given .1))
 
 pub execute-spec : {M : Type 1} → statement M
 execute-spec =

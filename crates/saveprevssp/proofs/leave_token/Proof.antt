@@ -20,15 +20,42 @@ use Rattle.saveprevssp.proofs.SaveprevsspWays.{leftStores, top-failed, 
 use Rattle.saveprevssp.proofs.leave_token.Statement.{statement}
 use Rattle.saveprevssp.proofs.leave_token.Tie as tie
 
+-- Of a place, the places on the way to it, called as `tie` calls them.
+abbrev way-store-all : tie.After-store-all → record {
+  after-new-top : tie.After-new-top;
+  after-top : tie.After-top;
+  else1 : tie.Else1;
+  after-minus : tie.After-minus;
+  after-shadow : tie.After-shadow;
+  after-minus2 : tie.After-minus2;
+  after-shadow2 : tie.After-shadow2;
+}
+way-store-all c =
+    let after-shadow2 = c .before .before .before in
+    let after-shadow = after-shadow2 .before .before in
+    let else1 = after-shadow .before .before in
+    let after-top = else1 .before .before .before in
+    record {
+      after-new-top = after-top .before .before;
+      after-top = after-top;
+      else1 = else1;
+      after-minus = after-shadow .before;
+      after-shadow = after-shadow;
+      after-minus2 = after-shadow2 .before;
+      after-shadow2 = after-shadow2;
+    }
+
 -- the entry, from the places at which something is known
 abbrev from-top : tie.After-new-top → tie.Start
 from-top c = c .before .before .before .before .before
 
 abbrev from-test : tie.Else1 → tie.Start
-from-test c = from-top (c .before .before .before .before .before)
+from-test c =
+    let after-new-top = c .before .before .before .before .before in
+    from-top after-new-top
 
 abbrev from-stores : tie.After-store-all → tie.Start
-from-stores c = from-test (c .before .before .before .before .before .before .before)
+from-stores c = from-test (way-store-all c .else1)
 
 -- where addresses lead, and the new top as the definition has it
 abbrev led : tie.Start → Lookup
@@ -55,11 +82,12 @@ stored : (c : tie.After-store-all) → (c .store-all .result ≡ tryAll (led (fr
     × (c .store-all .last .1 .1 .0
     ≡ leftBy (c .store-all .result) (writtenAll (led (from-stores c)) (the-stores c) (from-stores c .args .bytes .now)) (from-stores c .args .bytes .now))
 stored c =
+    let way = way-store-all c in
     rw (
-      c .before .before .before .shadow2 .ensures,
-      c .before .before .before .before .minus2 .ensures,
-      c .before .before .before .before .before .shadow .ensures,
-      c .before .before .before .before .before .before .minus .ensures,
+      way .after-shadow2 .shadow2 .ensures,
+      way .after-minus2 .minus2 .ensures,
+      way .after-shadow .shadow .ensures,
+      way .after-minus .minus .ensures,
       c .before .before .long-bit .ensures,
     )
     at (c .store-all .ensures)
@@ -93,9 +121,12 @@ same-length c = search needs
 
 returns : tie.Need-returns
 returns c =
-    let top = c .before .before .before .before .before in
+    let then1 = c .before .before in
+    let after-top = then1 .before .before .before in
+    let after-new-top = after-top .before .before in
     rw (c .fail2 .ensures, c .before .fault2 .ensures)
-    (sym (not-saved _ _ _ _ _ _ (went (top .before .before) _ (top .top .given .1)) (sym (c .before .before .before .saved-token .ensures) ∙ not-true _ (c .before .before .if1 .taken))))
+    (sym (not-saved _ _ _ _ _ _ (went after-new-top _ (after-top .top .given .1))
+    (sym (then1 .before .saved-token .ensures) ∙ not-true _ (then1 .if1 .taken))))
 
 sub-old : tie.Need-sub-old
 sub-old c = search needs
@@ -120,7 +151,8 @@ long-bit-requires c κs = search needs
 
 add-restore : tie.Need-add-restore
 add-restore c =
-    let start = from-test (c .before .before .before .before .before) in
+    let else1 = c .before .before .before .before .before in
+    let start = from-test else1 in
     omega (arith, c .long-bit .ensures, long-small (start .args .state), start .fits .token)
 
 array-set-from-slots : tie.Need-array-set-from-slots
@@ -154,29 +186,36 @@ same-length-2 : tie.Need-same-length-2
 same-length-2 c = search needs
 
 returns-2 : tie.Need-returns-2
-returns-2 c = rw (c .fail .ensures) (sym (top-failed _ _ _ _ _ _ (went (c .before .before .before .before) _ (c .before .before .fault .given .1))))
+returns-2 c =
+    let after-fault = c .before .before in
+    let after-new-top = after-fault .before .before in
+    rw (c .fail .ensures) (sym (top-failed _ _ _ _ _ _ (went after-new-top _ (after-fault .fault .given .1))))
 
 same-length-3 : tie.Need-same-length-3
 same-length-3 c = search needs
 
 returns-3 : tie.Need-returns-3
 returns-3 c =
-    let stores = c .before .before .before .before .before .before .before in
-    let top = stores .before .before .before .before .before .before .before .before .before .before in
-    let failed = c .before .before .before .access .given .1 in
-    rw (c .fail3 .ensures, c .before .blame .ensures, stored stores .1, failed)
-    (sym (not-left _ _ _ _ _ _ (went (top .before .before) _ (top .top .given .1)) (is-saved (stores .before .before .before .before .before .before .before)) _ _ (sym (stored stores .0) ∙ failed)))
+    let after-access = c .before .before .before in
+    let after-store-all = after-access .before .before .before .before in
+    let way = way-store-all after-store-all in
+    let failed = after-access .access .given .1 in
+    rw (c .fail3 .ensures, c .before .blame .ensures, stored after-store-all .1, failed)
+    (sym (not-left _ _ _ _ _ _ (went (way .after-new-top) _ (way .after-top .top .given .1)) (is-saved (way .else1)) _ _
+    (sym (stored after-store-all .0) ∙ failed)))
 
 same-length-4 : tie.Need-same-length-4
 same-length-4 c = search needs
 
 returns-4 : tie.Need-returns-4
 returns-4 c =
-    let stores = c .before .before .before .before .before .before in
-    let top = stores .before .before .before .before .before .before .before .before .before .before in
-    let all = c .before .before .enum-told .given .1 in
-    rw (c .shift .ensures, c .before .next .ensures, stored stores .1, all)
-    (sym (left-behind _ _ _ _ _ _ (went (top .before .before) _ (top .top .given .1)) (is-saved (stores .before .before .before .before .before .before .before)) (sym (stored stores .0) ∙ all)))
+    let after-enum-told = c .before .before in
+    let after-store-all = after-enum-told .before .before .before .before in
+    let way = way-store-all after-store-all in
+    let all = after-enum-told .enum-told .given .1 in
+    rw (c .shift .ensures, c .before .next .ensures, stored after-store-all .1, all)
+    (sym (left-behind _ _ _ _ _ _ (went (way .after-new-top) _ (way .after-top .top .given .1)) (is-saved (way .else1))
+    (sym (stored after-store-all .0) ∙ all)))
 
 pub leave-token-spec : {M : Type 1} → statement M
 leave-token-spec =

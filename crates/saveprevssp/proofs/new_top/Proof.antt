@@ -9,7 +9,9 @@ use Rattle.saveprevssp.proofs.new_top.Statement.{statement}
 use Rattle.saveprevssp.proofs.new_top.Tie as tie
 
 -- CF is set past the first test
-is-set : (c : tie.Else1) → carry (c .before .before .before .before .args .state) ≡ true
+is-set : (c : tie.Else1) →
+    let args = c .before .before .before .before .args in
+    carry (args .state) ≡ true
 is-set c = sym (c .before .carry .ensures) ∙ not-false _ (c .if1 .left)
 
 carry-requires : tie.Need-carry-requires
@@ -33,7 +35,9 @@ pop-hole-requires : tie.Need-pop-hole-requires
 pop-hole-requires c κs = search needs
 
 returns-3 : tie.Need-returns-3
-returns-3 c = c .pop-hole .ensures ∙ sym (a-hole _ _ _ _ (is-set (c .before .before .before)) (sym (c .before .before .is-long .ensures) ∙ c .before .if2 .left))
+returns-3 c =
+    c .pop-hole .ensures
+    ∙ sym (a-hole _ _ _ _ (is-set (c .before .before .before)) (sym (c .before .before .is-long .ensures) ∙ c .before .if2 .left))
 
 pub new-top-spec : {M : Type 1} → statement M
 new-top-spec =

@@ -44,14 +44,21 @@ found c = rw (← c .before .shadow .ensures) (sym (c .load .ensures))
 
 returns : tie.Need-returns
 returns c =
-    let load = c .before .before .before .before in
-    rw (c .blame .ensures, c .before .before .before .before .before .shadow .ensures) (sym (hole-blocked _ _ _ _ _ (found load ∙ c .before .before .failure .given .1)))
+    let after-failure = c .before .before in
+    let after-load = after-failure .before .before in
+    rw (c .blame .ensures, after-load .before .shadow .ensures) (sym (hole-blocked _ _ _ _ _ (found after-load ∙ after-failure .failure .given .1)))
 
 returns-2 : tie.Need-returns-2
-returns-2 c = rw (c .plus .ensures) (sym (hole-popped _ _ _ _ _ (found (c .before .before .before .before .before) ∙ c .before .before .before .hole .given .1) (c .before .if1 .taken)))
+returns-2 c =
+    let after-hole = c .before .before .before in
+    let after-load = after-hole .before .before in
+    rw (c .plus .ensures) (sym (hole-popped _ _ _ _ _ (found after-load ∙ after-hole .hole .given .1) (c .before .if1 .taken)))
 
 returns-3 : tie.Need-returns-3
-returns-3 c = rw (c .fault .ensures) (sym (hole-filled _ _ _ _ _ (found (c .before .before .before .before .before) ∙ c .before .before .before .hole .given .1) (c .before .if1 .left)))
+returns-3 c =
+    let after-hole = c .before .before .before in
+    let after-load = after-hole .before .before in
+    rw (c .fault .ensures) (sym (hole-filled _ _ _ _ _ (found after-load ∙ after-hole .hole .given .1) (c .before .if1 .left)))
 
 pub pop-hole-spec : {M : Type 1} → statement M
 pop-hole-spec =

@@ -7,13 +7,17 @@ use Rattle.script.proofs.Laws.{list-bounded}
 use Rattle.script.proofs.answer.Statement.{statement}
 use Rattle.script.proofs.answer.Tie as tie
 
+-- Of a place, the places on the way to it, called as `tie` calls them.
+abbrev way-command : tie.After-command → record { start : tie.Start }
+way-command c = record { start = c .before .before .before .before .before .before }
+
 enum-known-command : tie.Need-enum-known-command
 enum-known-command c = search needs
 
 answer-pages-requires : tie.Need-answer-pages-requires
 answer-pages-requires c κs =
-    let start = c .before .before .before .before .before .before .before .before .before in
-    (rw (c .before .before .before .command .given .1) at (start .pre .1), search needs)
+    let after-command = c .before .before .before in
+    (rw (after-command .command .given .1) at (way-command after-command .start .pre .1), search needs)
 
 enum-told : tie.Need-enum-told
 enum-told c = search needs
@@ -68,9 +72,10 @@ same-length-2 c = search needs
 
 returns : tie.Need-returns
 returns c =
-    let start = c .before .before .before .before .before .before .before .before .before .before .before .before .before .before in
-    let told = c .before .before .before .before .before .before .before .before .command .given .1 in
-    rw (c .before .before .before .before .answer-pages .ensures .given) (list-bounded _ _ _ (rw told at (start .pre .1)))
+    let after-answer-pages = c .before .before .before .before in
+    let after-command = after-answer-pages .before .before .before .before in
+    let told = after-command .command .given .1 in
+    rw (after-answer-pages .answer-pages .ensures .given) (list-bounded _ _ _ (rw told at (way-command after-command .start .pre .1)))
 
 returns-2 : tie.Need-returns-2
 returns-2 c = search needs

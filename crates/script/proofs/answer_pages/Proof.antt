@@ -52,14 +52,18 @@ same-length-2 c = search needs
 
 returns : tie.Need-returns
 returns c =
-    let start = c .before .before .before .before .before .before .before .before .before .before .before .before .before .before .before .before in
-    let copied = c .before .before .before .before .before .before .before .before .before .before .before .copy-entries .ensures in
-    let lent = c .before .before .before .before .before .before .before .lend-bytes in
-    let back = c .before .before .before .before .before .before .bytes .given .0 in
+    let after-number = c .before .before in
+    let after-bytes = after-number .before .before .before .before in
+    let after-copy-entries = after-bytes .before .before .before .before .before in
+    let args = after-copy-entries .before .before .before .before .before .args in
+    let copied = after-copy-entries .copy-entries .ensures in
+    let lent = after-bytes .before .lend-bytes in
+    let back = after-bytes .bytes .given .0 in
     record {
-      given = rw (c .before .before .number .ensures, c .before .before .before .of .ensures, copied);
+      given = rw (after-number .number .ensures, after-number .before .of .ensures, copied);
       entries-there = copied;
-      bytes-fresh = front-fresh (start .args .fill) (getD (start .args .numbers .now) 0 0) (start .args .bytes .now) (lent .last .1 .0) _ (omega arith) back (lent .ensures);
+      bytes-fresh = front-fresh (args .fill) (getD (args .numbers .now) 0 0) (args .bytes .now) (lent .last .1 .0) _ (omega arith) back
+          (lent .ensures);
     }
 
 pub answer-pages-spec : {M : Type 1} → statement M

@@ -26,8 +26,9 @@ enum-told c = search needs
 
 returns : tie.Need-returns Inv-loop μ-loop
 returns c =
-    let led = sym (c .before .before .find .ensures) ∙ c .enum-told .given .1 in
-    rw (c .before .before .before .before .loop .inv, scan-turn _ _ _ (c .before .before .before .loop-test .taken), led)
+    let after-find = c .before .before in
+    let led = sym (after-find .find .ensures) ∙ c .enum-told .given .1 in
+    rw (after-find .before .before .loop .inv, scan-turn _ _ _ (after-find .before .loop-test .taken), led)
 
 enum-told-2 : tie.Need-enum-told-2 Inv-loop μ-loop
 enum-told-2 c = search needs
@@ -43,8 +44,9 @@ loop-less c = search needs
 
 loop-again : tie.Need-loop-again Inv-loop μ-loop
 loop-again c =
-    let led = sym (c .before .before .before .find .ensures) ∙ c .before .enum-told2 .given .1 in
-    rw (c .before .before .before .before .before .loop .inv, scan-turn _ _ _ (c .before .before .before .before .loop-test .taken), led, c .plus .ensures)
+    let after-find = c .before .before .before in
+    let led = sym (after-find .find .ensures) ∙ c .before .enum-told2 .given .1 in
+    rw (after-find .before .before .loop .inv, scan-turn _ _ _ (after-find .before .loop-test .taken), led, c .plus .ensures)
 
 returns-2 : tie.Need-returns-2 Inv-loop μ-loop
 returns-2 c = sym (c .before .loop .inv ∙ scan-end _ _ _ (c .loop-test .left))

@@ -8,7 +8,8 @@ use Rattle.script.proofs.run.Statement.{statement}
 use Rattle.script.proofs.run.Tie as tie
 
 abbrev Inv-loop : tie.InvT-loop
-Inv-loop input pages₀ bytes₀ session₀ line-number₀ start₀ pages bytes session line-number start = (start ≤ length input + 1) × (line-number ≤ start + 1) × Bounded (session .list) × (length pages ≡ length pages₀) × (length bytes ≡ length bytes₀)
+Inv-loop input pages₀ bytes₀ session₀ line-number₀ start₀ pages bytes session line-number start =
+    (start ≤ length input + 1) × (line-number ≤ start + 1) × Bounded (session .list) × (length pages ≡ length pages₀) × (length bytes ≡ length bytes₀)
 
 abbrev μ-loop : tie.MeasureT-loop
 μ-loop input pages₀ bytes₀ session₀ line-number₀ start₀ pages bytes session line-number start = length input - start

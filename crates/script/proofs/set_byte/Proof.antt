@@ -25,12 +25,14 @@ same-length c = search needs
 
 returns-2 : tie.Need-returns-2
 returns-2 c =
-    let led = sym (c .before .before .before .before .find .ensures) ∙ c .before .before .place .given .1 in
+    let after-place = c .before .before in
+    let led = sym (after-place .before .before .find .ensures) ∙ after-place .place .given .1 in
     rw led
 
 returns-3 : tie.Need-returns-3
 returns-3 c =
-    let led = sym (c .before .before .before .before .find .ensures) ∙ c .before .before .place .given .1 in
+    let after-place = c .before .before in
+    let led = sym (after-place .before .before .find .ensures) ∙ after-place .place .given .1 in
     rw led (sym (set-out _ _ _ (c .if1 .left)))
 
 pub set-byte-spec : {M : Type 1} → statement M

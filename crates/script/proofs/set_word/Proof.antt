@@ -10,7 +10,9 @@ use Rattle.script.proofs.set_word.Statement.{statement}
 use Rattle.script.proofs.set_word.Tie as tie
 
 abbrev Inv-loop : tie.InvT-loop
-Inv-loop address value pages bytes₀ width at₀ rest₀ left₀ bytes at rest left = (write (spot pages (length bytes₀)) Bits64 address 8 value bytes₀ ≡ write (spot pages (length bytes₀)) Bits64 at left rest bytes) × (length bytes ≡ length bytes₀)
+Inv-loop address value pages bytes₀ width at₀ rest₀ left₀ bytes at rest left =
+    (write (spot pages (length bytes₀)) Bits64 address 8 value bytes₀ ≡ write (spot pages (length bytes₀)) Bits64 at left rest bytes)
+    × (length bytes ≡ length bytes₀)
 
 abbrev μ-loop : tie.MeasureT-loop
 μ-loop address value pages bytes₀ width at₀ rest₀ left₀ bytes at rest left = left
@@ -35,8 +37,10 @@ loop-less c = search needs
 
 loop-again : tie.Need-loop-again Inv-loop μ-loop
 loop-again c =
-    let inv = c .before .before .before .before .before .before .loop .inv in (
-      rw (inv .0, write-turn _ _ _ _ _ (c .before .before .before .before .before .loop-test .taken), c .plus .ensures, c .before .before .before .set-byte .ensures, inv .1),
+    let after-set-byte = c .before .before .before in
+    let in-loop = after-set-byte .before .before in
+    let inv = in-loop .before .loop .inv in (
+      rw (inv .0, write-turn _ _ _ _ _ (in-loop .loop-test .taken), c .plus .ensures, after-set-byte .set-byte .ensures, inv .1),
       search needs,
     )
 

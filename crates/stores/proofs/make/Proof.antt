@@ -12,7 +12,10 @@ same-length : tie.Need-same-length
 same-length c = search needs
 
 returns : tie.Need-returns
-returns c = c .before .before .store .ensures .1 ∙ store-done _ _ _ _ (c .before .before .before .before .before .before .before .pre .can)
+returns c =
+    let after-store = c .before .before in
+    let start = after-store .before .before .before .before .before in
+    after-store .store .ensures .1 ∙ store-done _ _ _ _ (start .pre .can)
 
 store-at-requires : tie.Need-store-at-requires
 store-at-requires c κs = search needs
@@ -22,8 +25,11 @@ same-length-2 c = search needs
 
 returns-2 : tie.Need-returns-2
 returns-2 c =
-    c .before .before .store-at .ensures
-    ∙ placed-written _ _ _ _ (c .before .before .before .before .before .before .before .pre .lies (c .before .before .before .before .if1 .left)) _ _ refl
+    let after-store-at = c .before .before in
+    let else1 = after-store-at .before .before in
+    let start = else1 .before .before .before in
+    after-store-at .store-at .ensures
+    ∙ placed-written _ _ _ _ (start .pre .lies (else1 .if1 .left)) _ _ refl
 
 pub make-spec : {M : Type 1} → statement M
 make-spec =

@@ -62,8 +62,11 @@ same-length c = search needs
 
 returns : tie.Need-returns Inv-loop μ-loop Inv-loop2 μ-loop2
 returns c =
-    let inv = c .before .before .before .before .before .before .before .before .before .before .loop .inv in
-    (tried-blocked inv (c .before .before .before .before .before .before .slot2 .given .1) (sym (c .before .failure .given .1) ∙ c .before .before .before .locate .ensures), refl)
+    let after-locate = c .before .before .before in
+    let after-slot2 = after-locate .before .before .before in
+    let at-loop = after-slot2 .before .before .before .before in
+    let inv = at-loop .loop .inv in
+    (tried-blocked inv (after-slot2 .slot2 .given .1) (sym (c .before .failure .given .1) ∙ after-locate .locate .ensures), refl)
 
 add-tried : tie.Need-add-tried Inv-loop μ-loop Inv-loop2 μ-loop2
 add-tried c = search needs
@@ -73,20 +76,24 @@ loop-less c = search needs
 
 loop-again : tie.Need-loop-again Inv-loop μ-loop Inv-loop2 μ-loop2
 loop-again c =
-    let inv = c .before .before .before .before .before .before .before .before .loop .inv in
-    let here = c .before .before .before .before .slot2 .given .1 in
+    let after-locate = c .before in
+    let after-slot2 = after-locate .before .before .before in
+    let at-loop = after-slot2 .before .before .before .before in
+    let inv = at-loop .loop .inv in
+    let here = after-slot2 .slot2 .given .1 in
     ⊎-elim
-    (λ w. tried-within inv here (sym (w .1 .given .1) ∙ c .before .locate .ensures) (w .3))
-    (λ w. tried-across inv here (sym (w .1 .given .1) ∙ c .before .locate .ensures) (w .2))
+    (λ w. tried-within inv here (sym (w .1 .given .1) ∙ after-locate .locate .ensures) (w .3))
+    (λ w. tried-across inv here (sym (w .1 .given .1) ∙ after-locate .locate .ensures) (w .2))
     (c .match2 .came)
 
 loop2-holds : tie.Need-loop2-holds Inv-loop μ-loop Inv-loop2 μ-loop2
 loop2-holds c =
-    let start = c .before .before .before .before in
-    let inv = c .before .loop .inv in
+    let at-loop = c .before in
+    let start = at-loop .before .before .before in
+    let inv = at-loop .loop .inv in
     making-starts inv
     (⊎-elim
-    (λ w. let past : length (start .args .t1) ≤ c .before .loop .tried = omega (arith, start .good .0 .1 .0 .1) in tried-all inv past)
+    (λ w. let past : length (start .args .t1) ≤ at-loop .loop .tried = omega (arith, start .good .0 .1 .0 .1) in tried-all inv past)
     (λ w. tried-to-end inv (w .3 .given .1))
     (c .loop-test .came))
 
@@ -103,7 +110,9 @@ same-length-2 : tie.Need-same-length-2 Inv-loop μ-loop Inv-loop2 μ-loop2
 same-length-2 c = c .before .before .before .before .loop2 .inv .kept
 
 returns-2 : tie.Need-returns-2 Inv-loop μ-loop Inv-loop2 μ-loop2
-returns-2 c = let inv = c .before .before .before .before .loop2 .inv in (inv .all, made-to-end inv (c .enum-told3 .given .1))
+returns-2 c =
+    let at-loop2 = c .before .before .before .before in
+    let inv = at-loop2 .loop2 .inv in (inv .all, made-to-end inv (c .enum-told3 .given .1))
 
 enum-known-slot-2 : tie.Need-enum-known-slot-2 Inv-loop μ-loop Inv-loop2 μ-loop2
 enum-known-slot-2 c = search needs
@@ -116,7 +125,9 @@ array-read-make c = search needs
 
 make-requires : tie.Need-make-requires Inv-loop μ-loop Inv-loop2 μ-loop2
 make-requires c κs =
-    this-ready (c .before .before .before .before .before .before .loop2 .inv) (c .before .before .slot4 .given .1) (c .before .before .before .before .before .loop2-test .taken)
+    let after-slot4 = c .before .before in
+    let in-loop2 = after-slot4 .before .before .before in
+    this-ready (in-loop2 .before .loop2 .inv) (after-slot4 .slot4 .given .1) (in-loop2 .loop2-test .taken)
 
 add-made : tie.Need-add-made Inv-loop μ-loop Inv-loop2 μ-loop2
 add-made c = search needs
@@ -126,16 +137,20 @@ loop2-less c = search needs
 
 loop2-again : tie.Need-loop2-again Inv-loop μ-loop Inv-loop2 μ-loop2
 loop2-again c =
-    made (c .before .before .before .before .before .before .before .before .before .loop2 .inv) (c .before .before .before .before .before .slot4 .given .1) (c .before .before .make .ensures)
+    let after-make = c .before .before in
+    let after-slot4 = after-make .before .before .before in
+    let at-loop2 = after-slot4 .before .before .before .before in
+    made (at-loop2 .loop2 .inv) (after-slot4 .slot4 .given .1) (after-make .make .ensures)
 
 same-length-3 : tie.Need-same-length-3 Inv-loop μ-loop Inv-loop2 μ-loop2
 same-length-3 c = c .before .loop2 .inv .kept
 
 returns-3 : tie.Need-returns-3 Inv-loop μ-loop Inv-loop2 μ-loop2
 returns-3 c =
-    let start = c .before .before .before .before .before .before in
-    let past : length (start .args .t1) ≤ c .before .loop2 .made = omega (arith, start .good .0 .1 .0 .1) in
-    (c .before .loop2 .inv .all, made-all (c .before .loop2 .inv) past)
+    let at-loop2 = c .before in
+    let start = at-loop2 .before .before .before .before .before in
+    let past : length (start .args .t1) ≤ at-loop2 .loop2 .made = omega (arith, start .good .0 .1 .0 .1) in
+    (at-loop2 .loop2 .inv .all, made-all (at-loop2 .loop2 .inv) past)
 
 pub store-all-spec : {M : Type 1} → statement M
 store-all-spec =

@@ -13,6 +13,10 @@ use Rattle.wrss.proofs.WrssWays.{not-usable, not-permitted, not-aligned
 use Rattle.wrss.proofs.execute.Statement.{statement}
 use Rattle.wrss.proofs.execute.Tie as tie
 
+-- Of a place, the places on the way to it, called as `tie` calls them.
+abbrev way-else2 : tie.Else2 → record { start : tie.Start }
+way-else2 c = record { start = c .before .before .before .before .before }
+
 usable-requires : tie.Need-usable-requires
 usable-requires c κs = search needs
 
@@ -23,16 +27,23 @@ fail-requires : tie.Need-fail-requires
 fail-requires c κs = search needs
 
 -- what is known after each test, and after the store
-is-usable : (c : tie.Else1) → usable (c .before .before .before .before .args .state) ≡ true
+is-usable : (c : tie.Else1) →
+    let args = c .before .before .before .before .args in
+    usable (args .state) ≡ true
 is-usable c = sym (c .before .usable .ensures) ∙ not-false _ (c .if1 .left)
 
-is-permitted : (c : tie.Else2) → c .before .before .before .before .before .args .permitted ≡ true
+is-permitted : (c : tie.Else2) → way-else2 c .start .args .permitted ≡ true
 is-permitted c = not-false _ (c .if2 .left)
 
-is-aligned : (c : tie.Else3) → c .before .before .before .before .before .before .before .args .a % byteCount (c .before .before .before .before .before .before .before .args .size) ≡ 0
+is-aligned : (c : tie.Else3) →
+    let args = way-else2 (c .before .before) .start .args in
+    args .a % byteCount (args .size) ≡ 0
 is-aligned c = rw (← c .before .bytes .ensures) (c .if3 .left)
 
-tried : (c : tie.After-store) → probe (lookupOf (c .before .before .before .before .before .before .before .before .before .before .args .pages .now) (c .before .before .before .before .before .before .before .before .before .before .args .bytes .now)) (shadow (c .before .before .before .before .before .before .before .before .before .before .args .state) (c .before .before .before .before .before .before .before .before .before .before .args .a) (c .before .before .before .before .before .before .before .before .before .before .args .size) true) ≡ c .store .result
+tried : (c : tie.After-store) →
+    let else2 = c .before .before .before .before .before in
+    let args = way-else2 else2 .start .args in
+    probe (lookupOf (args .pages .now) (args .bytes .now)) (shadow (args .state) (args .a) (args .size) true) ≡ c .store .result
 tried c = rw (← c .before .before .shadow .ensures) (sym (c .store .ensures .0))
 
 returns : tie.Need-returns
@@ -55,7 +66,7 @@ bytes-requires : tie.Need-bytes-requires
 bytes-requires c κs = search needs
 
 rem-if3 : tie.Need-rem-if3
-rem-if3 c = rw (c .bytes .ensures) (some-bytes (c .before .before .before .before .before .before .args .size))
+rem-if3 c = rw (c .bytes .ensures) (some-bytes (way-else2 (c .before) .start .args .size))
 
 fault-requires-3 : tie.Need-fault-requires-3
 fault-requires-3 c κs = search needs
@@ -65,8 +76,11 @@ fail-requires-3 c κs = search needs
 
 returns-3 : tie.Need-returns-3
 returns-3 c =
+    let then3 = c .before .before in
+    let else2 = then3 .before .before in
     rw (c .fail3 .ensures, c .before .fault3 .ensures)
-    (sym (not-aligned _ _ _ _ _ _ _ _ (is-usable (c .before .before .before .before .before)) (is-permitted (c .before .before .before .before)) (λ e. c .before .before .if3 .taken (rw (c .before .before .before .bytes .ensures) e))))
+    (sym (not-aligned _ _ _ _ _ _ _ _ (is-usable (else2 .before)) (is-permitted else2)
+    (λ e. then3 .if3 .taken (rw (then3 .before .bytes .ensures) e))))
 
 shadow-requires : tie.Need-shadow-requires
 shadow-requires c κs = search needs
@@ -97,18 +111,26 @@ same-length c = search needs
 
 returns-4 : tie.Need-returns-4
 returns-4 c =
-    let failed = tried (c .before .before .before .before .before .before .before) ∙ c .before .before .before .failure .given .1 in
-    rw (c .fail4 .ensures, c .before .blame .ensures, c .before .before .before .before .before .before .before .store .ensures .1, c .before .before .before .before .before .before .before .before .before .shadow .ensures, store-failed _ _ _ _ _ failed)
-    (sym (blocked _ _ _ _ _ _ _ _ (is-usable (c .before .before .before .before .before .before .before .before .before .before .before .before .before)) (is-permitted (c .before .before .before .before .before .before .before .before .before .before .before .before)) (is-aligned (c .before .before .before .before .before .before .before .before .before .before)) _ failed))
+    let after-failure = c .before .before .before in
+    let after-store = after-failure .before .before .before .before in
+    let after-shadow = after-store .before .before in
+    let else2 = after-shadow .before .before .before in
+    let failed = tried after-store ∙ after-failure .failure .given .1 in
+    rw (c .fail4 .ensures, c .before .blame .ensures, after-store .store .ensures .1, after-shadow .shadow .ensures, store-failed _ _ _ _ _ failed)
+    (sym (blocked _ _ _ _ _ _ _ _ (is-usable (else2 .before)) (is-permitted else2) (is-aligned (after-shadow .before)) _ failed))
 
 same-length-2 : tie.Need-same-length-2
 same-length-2 c = search needs
 
 returns-5 : tie.Need-returns-5
 returns-5 c =
-    let ready = tried (c .before .before .before .before .before .before) ∙ c .before .before .enum-told .given .1 in
-    rw (c .complete .ensures, c .before .next .ensures, c .before .before .before .before .before .before .store .ensures .1, c .before .before .before .before .before .before .before .before .shadow .ensures, store-done _ _ _ _ ready)
-    (sym (wrote _ _ _ _ _ _ _ _ (is-usable (c .before .before .before .before .before .before .before .before .before .before .before .before)) (is-permitted (c .before .before .before .before .before .before .before .before .before .before .before)) (is-aligned (c .before .before .before .before .before .before .before .before .before)) ready))
+    let after-enum-told = c .before .before in
+    let after-store = after-enum-told .before .before .before .before in
+    let after-shadow = after-store .before .before in
+    let else2 = after-shadow .before .before .before in
+    let ready = tried after-store ∙ after-enum-told .enum-told .given .1 in
+    rw (c .complete .ensures, c .before .next .ensures, after-store .store .ensures .1, after-shadow .shadow .ensures, store-done _ _ _ _ ready)
+    (sym (wrote _ _ _ _ _ _ _ _ (is-usable (else2 .before)) (is-permitted else2) (is-aligned (after-shadow .before)) ready))
 
 pub execute-spec : {M : Type 1} → statement M
 execute-spec =

@@ -12,14 +12,27 @@ use Rattle.wruss.proofs.WrussWays.{not-recognised, not-kernel, not-alig
 use Rattle.wruss.proofs.execute.Statement.{statement}
 use Rattle.wruss.proofs.execute.Tie as tie
 
+-- Of a place, the places on the way to it, called as `tie` calls them.
+abbrev way-bytes : tie.After-bytes → record { start : tie.Start; else1 : tie.Else1 }
+way-bytes c =
+    let else1 = c .before .before .before in
+    record { start = else1 .before .before .before .before; else1 = else1 }
+
 -- what is known after each test, and after the store
-is-recognised : (c : tie.Else1) → recognised (c .before .before .before .before .args .state) ≡ true
+is-recognised : (c : tie.Else1) →
+    let args = c .before .before .before .before .args in
+    recognised (args .state) ≡ true
 is-recognised c = sym (c .before .recognised .ensures) ∙ not-false _ (c .if1 .left)
 
-is-aligned : (c : tie.Else3) → c .before .before .before .before .before .before .before .before .args .a % byteCount (c .before .before .before .before .before .before .before .before .args .size) ≡ 0
+is-aligned : (c : tie.Else3) →
+    let args = way-bytes (c .before) .start .args in
+    args .a % byteCount (args .size) ≡ 0
 is-aligned c = rw (← c .before .bytes .ensures) (c .if3 .left)
 
-tried : (c : tie.After-store) → probe (lookupOf (c .before .before .before .before .before .before .before .before .before .before .before .args .pages .now) (c .before .before .before .before .before .before .before .before .before .before .before .args .bytes .now)) (userStore (c .before .before .before .before .before .before .before .before .before .before .before .args .state) (c .before .before .before .before .before .before .before .before .before .before .before .args .a) (c .before .before .before .before .before .before .before .before .before .before .before .args .size)) ≡ c .store .result
+tried : (c : tie.After-store) →
+    let after-bytes = c .before .before .before .before in
+    let args = way-bytes after-bytes .start .args in
+    probe (lookupOf (args .pages .now) (args .bytes .now)) (userStore (args .state) (args .a) (args .size)) ≡ c .store .result
 tried c = rw (← c .before .before .user-store .ensures) (sym (c .store .ensures .0))
 
 recognised-requires : tie.Need-recognised-requires
@@ -44,14 +57,16 @@ fail-requires-2 c κs = search needs
 
 returns-2 : tie.Need-returns-2
 returns-2 c =
+    let then2 = c .before .before in
+    let else1 = then2 .before .before in
     rw (c .fail2 .ensures, c .before .fault2 .ensures)
-    (sym (not-kernel _ _ _ _ _ _ _ (is-recognised (c .before .before .before .before)) (c .before .before .if2 .taken)))
+    (sym (not-kernel _ _ _ _ _ _ _ (is-recognised else1) (then2 .if2 .taken)))
 
 bytes-requires : tie.Need-bytes-requires
 bytes-requires c κs = search needs
 
 rem-if3 : tie.Need-rem-if3
-rem-if3 c = rw (c .bytes .ensures) (some-bytes (c .before .before .before .before .before .before .before .args .size))
+rem-if3 c = rw (c .bytes .ensures) (some-bytes (way-bytes c .start .args .size))
 
 fault-requires-3 : tie.Need-fault-requires-3
 fault-requires-3 c κs = search needs
@@ -61,8 +76,11 @@ fail-requires-3 c κs = search needs
 
 returns-3 : tie.Need-returns-3
 returns-3 c =
+    let then3 = c .before .before in
+    let after-bytes = then3 .before in
     rw (c .fail3 .ensures, c .before .fault3 .ensures)
-    (sym (not-aligned _ _ _ _ _ _ _ (is-recognised (c .before .before .before .before .before .before)) (c .before .before .before .before .if2 .left) (λ e. c .before .before .if3 .taken (rw (c .before .before .before .bytes .ensures) e))))
+    (sym (not-aligned _ _ _ _ _ _ _ (is-recognised (way-bytes after-bytes .else1)) (after-bytes .before .if2 .left)
+    (λ e. then3 .if3 .taken (rw (after-bytes .bytes .ensures) e))))
 
 user-store-requires : tie.Need-user-store-requires
 user-store-requires c κs = search needs
@@ -93,18 +111,40 @@ same-length c = search needs
 
 returns-4 : tie.Need-returns-4
 returns-4 c =
-    let failed = tried (c .before .before .before .before .before .before .before) ∙ c .before .before .before .failure .given .1 in
-    rw (c .fail4 .ensures, c .before .blame .ensures, c .before .before .before .before .before .before .before .store .ensures .1, c .before .before .before .before .before .before .before .before .before .user-store .ensures, store-failed _ _ _ _ _ failed)
-    (sym (blocked _ _ _ _ _ _ _ (is-recognised (c .before .before .before .before .before .before .before .before .before .before .before .before .before .before)) (c .before .before .before .before .before .before .before .before .before .before .before .before .if2 .left) (is-aligned (c .before .before .before .before .before .before .before .before .before .before)) _ failed))
+    let after-failure = c .before .before .before in
+    let after-store = after-failure .before .before .before .before in
+    let after-user-store = after-store .before .before in
+    let after-bytes = after-user-store .before .before in
+    let failed = tried after-store ∙ after-failure .failure .given .1 in
+    rw (
+      c .fail4 .ensures,
+      c .before .blame .ensures,
+      after-store .store .ensures .1,
+      after-user-store .user-store .ensures,
+      store-failed _ _ _ _ _ failed,
+    )
+    (sym (blocked _ _ _ _ _ _ _ (is-recognised (way-bytes after-bytes .else1)) (after-bytes .before .if2 .left)
+    (is-aligned (after-user-store .before)) _ failed))
 
 same-length-2 : tie.Need-same-length-2
 same-length-2 c = search needs
 
 returns-5 : tie.Need-returns-5
 returns-5 c =
-    let ready = tried (c .before .before .before .before .before .before) ∙ c .before .before .enum-told .given .1 in
-    rw (c .complete .ensures, c .before .next .ensures, c .before .before .before .before .before .before .store .ensures .1, c .before .before .before .before .before .before .before .before .user-store .ensures, store-done _ _ _ _ ready)
-    (sym (wrote _ _ _ _ _ _ _ (is-recognised (c .before .before .before .before .before .before .before .before .before .before .before .before .before)) (c .before .before .before .before .before .before .before .before .before .before .before .if2 .left) (is-aligned (c .before .before .before .before .before .before .before .before .before)) ready))
+    let after-enum-told = c .before .before in
+    let after-store = after-enum-told .before .before .before .before in
+    let after-user-store = after-store .before .before in
+    let after-bytes = after-user-store .before .before in
+    let ready = tried after-store ∙ after-enum-told .enum-told .given .1 in
+    rw (
+      c .complete .ensures,
+      c .before .next .ensures,
+      after-store .store .ensures .1,
+      after-user-store .user-store .ensures,
+      store-done _ _ _ _ ready,
+    )
+    (sym (wrote _ _ _ _ _ _ _ (is-recognised (way-bytes after-bytes .else1)) (after-bytes .before .if2 .left)
+    (is-aligned (after-user-store .before)) ready))
 
 pub execute-spec : {M : Type 1} → statement M
 execute-spec =

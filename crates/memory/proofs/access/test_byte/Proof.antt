@@ -30,13 +30,21 @@ returns-2 : tie.Need-returns-2
 returns-2 c = rw (c .before .before .enum-told .given .1, sym (c .before .canonical .ensures) ∙ c .if1 .left)
 
 returns-3 : tie.Need-returns-3
-returns-3 c = rw (c .before .before .before .before .asked .given .1, sym (c .before .before .find .ensures) ∙ c .enum-told2 .given .1)
+returns-3 c =
+    let after-find = c .before .before in
+    rw (after-find .before .before .asked .given .1, sym (after-find .find .ensures) ∙ c .enum-told2 .given .1)
 
 returns-4 : tie.Need-returns-4
-returns-4 c = rw (c .before .before .before .before .before .before .asked .given .1, sym (c .before .before .before .before .find .ensures) ∙ c .before .before .found .given .1, eq-eqb _ _ (c .if2 .taken))
+returns-4 c =
+    let after-found = c .before .before in
+    let after-find = after-found .before .before in
+    rw (after-find .before .before .asked .given .1, sym (after-find .find .ensures) ∙ after-found .found .given .1, eq-eqb _ _ (c .if2 .taken))
 
 returns-5 : tie.Need-returns-5
-returns-5 c = rw (c .before .before .before .before .before .before .asked .given .1, sym (c .before .before .before .before .find .ensures) ∙ c .before .before .found .given .1, ne-eqb _ _ (c .if2 .left))
+returns-5 c =
+    let after-found = c .before .before in
+    let after-find = after-found .before .before in
+    rw (after-find .before .before .asked .given .1, sym (after-find .find .ensures) ∙ after-found .found .given .1, ne-eqb _ _ (c .if2 .left))
 
 pub test-byte-spec : {M : Type 1} → statement M
 test-byte-spec =

@@ -32,14 +32,19 @@ is-ready-requires : tie.Need-is-ready-requires Inv-loop μ-loop
 is-ready-requires c κs = search needs
 
 -- a turn: this byte, then those after it
-turned : (c : tie.After-test-byte Inv-loop μ-loop)
-    → scan (byteTest (spot (c .before .before .before .before .before .args .pages .now) (c .before .before .before .before .before .args .lent)) (c .before .before .before .before .before .args .asked)) (c .before .before .before .before .before .args .width) (wrapped (c .before .before .before .before .before .args .width) (c .before .before .before .before .before .args .first)) (c .before .before .before .before .before .args .n)
+turned : (c : tie.After-test-byte Inv-loop μ-loop) →
+    let at-loop = c .before .before in
+    let args = at-loop .before .before .before .args in
+    scan (byteTest (spot (args .pages .now) (args .lent)) (args .asked)) (args .width) (wrapped (args .width) (args .first)) (args .n)
     ≡ andThen (c .test-byte .result)
-    (scan (byteTest (spot (c .before .before .before .before .before .args .pages .now) (c .before .before .before .before .before .args .lent)) (c .before .before .before .before .before .args .asked)) (c .before .before .before .before .before .args .width) (plus (c .before .before .before .before .before .args .width) (c .before .before .loop .address) 1) (c .before .before .loop .left - 1))
+    (scan (byteTest (spot (args .pages .now) (args .lent)) (args .asked)) (args .width) (plus (args .width) (at-loop .loop .address) 1)
+    (at-loop .loop .left - 1))
 turned c = rw (c .before .before .loop .inv, scan-turn _ (c .before .loop-test .taken) _ _ _, ← c .test-byte .ensures)
 
 returns : tie.Need-returns Inv-loop μ-loop
-returns c = rw (turned (c .before .before), blocked-first (c .before .before .test-byte .result) _ (ap not (sym (c .before .is-ready .ensures)) ∙ c .if1 .taken))
+returns c =
+    let after-test-byte = c .before .before in
+    rw (turned after-test-byte, blocked-first (after-test-byte .test-byte .result) _ (ap not (sym (c .before .is-ready .ensures)) ∙ c .if1 .taken))
 
 plus-requires : tie.Need-plus-requires Inv-loop μ-loop
 plus-requires c κs = search needs
@@ -51,7 +56,13 @@ loop-less : tie.Need-loop-less Inv-loop μ-loop
 loop-less c = omega arith
 
 loop-again : tie.Need-loop-again Inv-loop μ-loop
-loop-again c = rw (turned (c .before .before .before), ready-next (c .before .before .before .test-byte .result) _ (ap not (sym (c .before .before .is-ready .ensures)) ∙ c .before .if1 .left), c .plus .ensures)
+loop-again c =
+    let after-is-ready = c .before .before in
+    rw (
+      turned (after-is-ready .before),
+      ready-next (after-is-ready .before .test-byte .result) _ (ap not (sym (after-is-ready .is-ready .ensures)) ∙ c .before .if1 .left),
+      c .plus .ensures,
+    )
 
 returns-2 : tie.Need-returns-2 Inv-loop μ-loop
 returns-2 c = rw (c .before .loop .inv, scan-end _ (c .loop-test .left) _ _ _)

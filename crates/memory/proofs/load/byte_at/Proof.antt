@@ -15,13 +15,17 @@ enum-known-place : tie.Need-enum-known-place
 enum-known-place c = search needs
 
 shared-slice-read-result : tie.Need-shared-slice-read-result
-shared-slice-read-result c = spot-inside _ _ _ _ _ (sym (c .before .before .before .before .find .ensures) ∙ c .before .before .place .given .1)
+shared-slice-read-result c =
+    let after-place = c .before .before in
+    spot-inside _ _ _ _ _ (sym (after-place .before .before .find .ensures) ∙ after-place .place .given .1)
 
 returns : tie.Need-returns
 returns c = rw (sym (c .before .before .find .ensures) ∙ c .enum-told .given .1)
 
 returns-2 : tie.Need-returns-2
-returns-2 c = rw (sym (c .before .before .before .before .find .ensures) ∙ c .before .before .place .given .1)
+returns-2 c =
+    let after-place = c .before .before in
+    rw (sym (after-place .before .before .find .ensures) ∙ after-place .place .given .1)
 
 pub byte-at-spec : {M : Type 1} → statement M
 byte-at-spec =

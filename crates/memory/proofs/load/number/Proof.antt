@@ -31,7 +31,8 @@ byte-at-requires c κs = search needs
 small : (c : tie.In-loop Inv-loop μ-loop) → c .before .loop .value < 2 ^ 56
 small c =
     let at-loop = c .before in
-    let n : ℕ = c .before .before .before .before .args .n in
+    let args = at-loop .before .before .before .args in
+    let n : ℕ = args .n in
     room (at-loop .loop .value) (n - at-loop .loop .left) (omega arith) (at-loop .loop .inv .below)
 
 mul-value : tie.Need-mul-value Inv-loop μ-loop
@@ -48,11 +49,13 @@ loop-less c = omega arith
 
 loop-again : tie.Need-loop-again Inv-loop μ-loop
 loop-again c =
-    let args = c .before .before .before .before .before .before .before .args in
-    built-more _ _ _ _ _ _ _ _ (c .before .before .before .loop-test .taken) (c .before .before .before .before .loop .inv) (omega (arith, c .before .byte-at .ok))
+    let after-byte-at = c .before in
+    let in-loop = after-byte-at .before .before in
+    let args = in-loop .before .before .before .before .args in
+    built-more _ _ _ _ _ _ _ _ (in-loop .loop-test .taken) (in-loop .before .loop .inv) (omega (arith, after-byte-at .byte-at .ok))
     (c .wide .ensures
-    ∙ c .before .byte-at .ensures
-    ∙ ap (λ (a : ℕ). byteIn (args .bytes .now) (spot (args .pages .now) (length (args .bytes .now)) a)) (c .before .before .plus .ensures))
+    ∙ after-byte-at .byte-at .ensures
+    ∙ ap (λ (a : ℕ). byteIn (args .bytes .now) (spot (args .pages .now) (length (args .bytes .now)) a)) (after-byte-at .before .plus .ensures))
 
 returns : tie.Need-returns Inv-loop μ-loop
 returns c = built-all _ _ _ _ _ _ _ (c .loop-test .left) (c .before .loop .inv)

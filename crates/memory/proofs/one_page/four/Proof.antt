@@ -46,7 +46,12 @@ add-result c = search needs
 
 returns : tie.Need-returns
 returns c = (
-  rw (c .before .before .before .byte .ensures .0, c .before .before .byte2 .ensures .0, c .before .byte3 .ensures .0, c .byte4 .ensures .0) (four-bytes _ _),
+  rw (
+    c .before .before .before .byte .ensures .0,
+    c .before .before .byte2 .ensures .0,
+    c .before .byte3 .ensures .0,
+    c .byte4 .ensures .0,
+  ) (four-bytes _ _),
   omega arith,
 )
 

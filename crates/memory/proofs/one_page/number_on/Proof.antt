@@ -21,7 +21,9 @@ add-four : tie.Need-add-four
 add-four c = search needs
 
 four-requires-3 : tie.Need-four-requires-3
-four-requires-3 c κs = let fits = rw (c .before .enum-told2 .given .1) at (c .before .before .before .before .pre) in omega arith
+four-requires-3 c κs =
+    let start = c .before .before .before .before in
+    let fits = rw (c .before .enum-told2 .given .1) at (start .pre) in omega arith
 
 mul-result : tie.Need-mul-result
 mul-result c = omega arith

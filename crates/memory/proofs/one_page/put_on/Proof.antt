@@ -20,20 +20,28 @@ add-put-four c = search needs
 
 put-four-requires-2 : tie.Need-put-four-requires-2
 put-four-requires-2 c κs =
-    let fits = rw (c .before .enum-told2 .given .1) at (c .before .before .before .before .before .before .before .before .pre) in
-    rw (c .before .before .before .before .before .put-four .ensures, length-put-at _ _ _ _) (omega arith)
+    let after-put-four = c .before .before .before .before .before in
+    let start = after-put-four .before .before .before in
+    let fits = rw (c .before .enum-told2 .given .1) at (start .pre) in
+    rw (after-put-four .put-four .ensures, length-put-at _ _ _ _) (omega arith)
 
 same-length : tie.Need-same-length
 same-length c = search needs
 
 returns : tie.Need-returns
-returns c = rw (c .enum-told .given .1) (c .before .before .before .before .put-four .ensures)
+returns c =
+    let after-put-four = c .before .before .before .before in
+    rw (c .enum-told .given .1) (after-put-four .put-four .ensures)
 
 same-length-2 : tie.Need-same-length-2
 same-length-2 c = search needs
 
 returns-2 : tie.Need-returns-2
-returns-2 c = rw (c .before .before .before .before .enum-told2 .given .1, c .before .before .put-four2 .ensures, c .before .before .before .before .before .before .before .before .put-four .ensures) (put-eight _ _ _)
+returns-2 c =
+    let after-put-four2 = c .before .before in
+    let after-enum-told2 = after-put-four2 .before .before in
+    let after-put-four = after-enum-told2 .before .before .before .before in
+    rw (after-enum-told2 .enum-told2 .given .1, after-put-four2 .put-four2 .ensures, after-put-four .put-four .ensures) (put-eight _ _ _)
 
 pub put-on-spec : {M : Type 1} → statement M
 put-on-spec =

@@ -17,19 +17,26 @@ one-page-requires : tie.Need-one-page-requires
 one-page-requires c κs = search needs
 
 -- what the second test found, in the terms of the definition
-tested : (c : tie.After-one-page) → onePage (c .before .before .before .before .args .place) (byteCount (c .before .before .before .before .args .size)) ≡ c .one-page .result
+tested : (c : tie.After-one-page) →
+    let args = c .before .before .before .before .args in
+    onePage (args .place) (byteCount (args .size)) ≡ c .one-page .result
 tested c = rw (← c .before .bytes .ensures) (sym (c .one-page .ensures))
 
 store-within-requires : tie.Need-store-within-requires
-store-within-requires c κs = lies-on-page _ _ _ (c .before .before .before .before .if1 .left) (tested (c .before .before) ∙ c .before .if2 .taken)
+store-within-requires c κs =
+    let after-one-page = c .before .before in
+    lies-on-page _ _ _ (after-one-page .before .before .if1 .left) (tested after-one-page ∙ c .before .if2 .taken)
 
 same-length : tie.Need-same-length
 same-length c = search needs
 
 returns-2 : tie.Need-returns-2
 returns-2 c =
-    let test = c .before .before .before .before in
-    c .before .before .store-within .ensures ∙ sym (stored-on-page _ _ _ _ (test .before .before .before .if1 .left) (tested (test .before) ∙ test .if2 .taken))
+    let after-store-within = c .before .before in
+    let then2 = after-store-within .before .before in
+    let after-one-page = then2 .before in
+    after-store-within .store-within .ensures
+    ∙ sym (stored-on-page _ _ _ _ (after-one-page .before .before .if1 .left) (tested after-one-page ∙ then2 .if2 .taken))
 
 returns-3 : tie.Need-returns-3
 returns-3 c = sym (runs-off-page _ _ _ _ (c .before .before .before .if1 .left) (tested (c .before) ∙ c .if2 .left))

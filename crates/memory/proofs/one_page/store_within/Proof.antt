@@ -26,7 +26,10 @@ same-length : tie.Need-same-length
 same-length c = search needs
 
 returns : tie.Need-returns
-returns c = rw (c .before .before .put-on .ensures) (store-part _ _ _ _ (c .before .before .before .before .before .pre .inside))
+returns c =
+    let after-put-on = c .before .before in
+    let start = after-put-on .before .before .before in
+    rw (after-put-on .put-on .ensures) (store-part _ _ _ _ (start .pre .inside))
 
 pub store-within-spec : {M : Type 1} → statement M
 store-within-spec =

@@ -44,8 +44,10 @@ same-length c = search needs
 
 returns-2 : tie.Need-returns-2
 returns-2 c =
-    let led = sym (c .before .before .before .before .before .before .before .find .ensures) ∙ c .before .before .before .before .before .place .given .1 in
-    rw (led, c .before .before .put-in-page .ensures) (put-in _ _ _ (spot-page _ _ _ _ _ led))
+    let after-put-in-page = c .before .before in
+    let after-place = after-put-in-page .before .before .before in
+    let led = sym (after-place .before .before .find .ensures) ∙ after-place .place .given .1 in
+    rw (led, after-put-in-page .put-in-page .ensures) (put-in _ _ _ (spot-page _ _ _ _ _ led))
 
 pub put-spec : {M : Type 1} → statement M
 put-spec =

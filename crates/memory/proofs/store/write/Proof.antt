@@ -12,7 +12,9 @@ use Rattle.memory.proofs.store.write.Statement.{statement}
 use Rattle.memory.proofs.store.write.Tie as tie
 
 abbrev Inv-loop : tie.InvT-loop
-Inv-loop pages bytes₀ width first n value address₀ rest₀ left₀ bytes address rest left = (write (spot pages (length bytes₀)) width (wrapped width first) n value bytes₀ ≡ write (spot pages (length bytes₀)) width address left rest bytes) × (length bytes ≡ length bytes₀)
+Inv-loop pages bytes₀ width first n value address₀ rest₀ left₀ bytes address rest left =
+    (write (spot pages (length bytes₀)) width (wrapped width first) n value bytes₀ ≡ write (spot pages (length bytes₀)) width address left rest bytes)
+    × (length bytes ≡ length bytes₀)
 
 abbrev μ-loop : tie.MeasureT-loop
 μ-loop pages bytes₀ width first n value address₀ rest₀ left₀ bytes address rest left = left
@@ -40,9 +42,11 @@ loop-less c = omega arith
 
 loop-again : tie.Need-loop-again Inv-loop μ-loop
 loop-again c =
-    let inv = c .before .before .before .before .before .before .loop .inv in (
-      rw (inv .0, write-turn _ (c .before .before .before .before .before .loop-test .taken) _ _ _ _ _, c .plus .ensures, c .before .before .before .put .ensures, inv .1),
-      rw (c .before .before .before .put .ensures, length-put) (inv .1),
+    let after-put = c .before .before .before in
+    let in-loop = after-put .before .before in
+    let inv = in-loop .before .loop .inv in (
+      rw (inv .0, write-turn _ (in-loop .loop-test .taken) _ _ _ _ _, c .plus .ensures, after-put .put .ensures, inv .1),
+      rw (after-put .put .ensures, length-put) (inv .1),
     )
 
 same-length : tie.Need-same-length Inv-loop μ-loop

@@ -30,10 +30,14 @@ meets-requires : tie.Need-meets-requires Inv-loop μ-loop
 meets-requires c κs = search needs
 
 -- a turn: this entry, or one of the rest
-turned : (c : tie.After-meets Inv-loop μ-loop)
-    → anyEntry (meets (c .before .before .before .before .before .args .sought)) (c .before .before .before .before .before .args .pages .now)
-    ≡ (c .meets .result || anyEntry (meets (c .before .before .before .before .before .args .sought)) (drop (c .before .before .before .loop .i + 1) (c .before .before .before .before .before .args .pages .now)))
-turned c = rw (c .before .before .before .loop .inv, any-turn _ (c .before .before .before .loop .i) (c .before .before .loop-test .taken) _, ← c .meets .ensures)
+turned : (c : tie.After-meets Inv-loop μ-loop) →
+    let at-loop = c .before .before .before in
+    let args = at-loop .before .before .args in
+    anyEntry (meets (args .sought)) (args .pages .now)
+    ≡ (c .meets .result || anyEntry (meets (args .sought)) (drop (at-loop .loop .i + 1) (args .pages .now)))
+turned c =
+    let in-loop = c .before .before in
+    rw (in-loop .before .loop .inv, any-turn _ (in-loop .before .loop .i) (in-loop .loop-test .taken) _, ← c .meets .ensures)
 
 returns : tie.Need-returns Inv-loop μ-loop
 returns c = rw (turned (c .before), c .if1 .taken)

@@ -36,16 +36,23 @@ in-page-requires : tie.Need-in-page-requires Inv-loop μ-loop
 in-page-requires c κs = search needs
 
 -- a turn: this entry's page, or those of the rest
-turned : (c : tie.In-loop Inv-loop μ-loop)
-    → spot (c .before .before .before .before .args .pages .now) (c .before .before .before .before .args .lent) (c .before .before .before .before .args .address)
-    ≡ cond (onPage (pageOf (c .before .before .before .before .args .address)) (getD (c .before .before .before .before .args .pages .now) (c .before .loop .i) 0))
-    (inPage (c .before .loop .i) (getD (c .before .before .before .before .args .pages .now) (c .before .loop .i) 0) (c .before .before .before .before .args .lent) (c .before .before .before .before .args .address))
-    (spotFrom (c .before .loop .i + 1) (drop (c .before .loop .i + 1) (c .before .before .before .before .args .pages .now)) (c .before .before .before .before .args .lent) (c .before .before .before .before .args .address))
+turned : (c : tie.In-loop Inv-loop μ-loop) →
+    let at-loop = c .before in
+    let args = at-loop .before .before .before .args in
+    spot (args .pages .now) (args .lent) (args .address)
+    ≡ cond (onPage (pageOf (args .address)) (getD (args .pages .now) (at-loop .loop .i) 0))
+    (inPage (at-loop .loop .i) (getD (args .pages .now) (at-loop .loop .i) 0) (args .lent) (args .address))
+    (spotFrom (at-loop .loop .i + 1) (drop (at-loop .loop .i + 1) (args .pages .now)) (args .lent) (args .address))
 turned c = c .before .loop .inv ∙ spot-turn _ (c .before .loop .i) (c .loop-test .taken) _ _
 
 returns : tie.Need-returns Inv-loop μ-loop
 returns c =
-    rw (turned (c .before .before .before .before), on-page _ _ (sym (c .before .before .page-of2 .ensures) ∙ c .before .if1 .taken ∙ c .before .before .before .before .before .before .page-of .ensures)) (c .in-page .ensures)
+    let after-page-of2 = c .before .before in
+    let in-loop = after-page-of2 .before .before in
+    rw (
+      turned in-loop,
+      on-page _ _ (sym (after-page-of2 .page-of2 .ensures) ∙ c .before .if1 .taken ∙ in-loop .before .before .page-of .ensures),
+    ) (c .in-page .ensures)
 
 add-i : tie.Need-add-i Inv-loop μ-loop
 add-i c = omega arith
@@ -55,7 +62,8 @@ loop-less c = omega arith
 
 loop-again : tie.Need-loop-again Inv-loop μ-loop
 loop-again c =
-    rw (turned (c .before .before .before), off-page _ _ (λ e. c .if1 .left (c .before .page-of2 .ensures ∙ e ∙ sym (c .before .before .before .before .before .page-of .ensures))))
+    let in-loop = c .before .before .before in
+    rw (turned in-loop, off-page _ _ (λ e. c .if1 .left (c .before .page-of2 .ensures ∙ e ∙ sym (in-loop .before .before .page-of .ensures))))
 
 returns-2 : tie.Need-returns-2 Inv-loop μ-loop
 returns-2 c = rw (c .before .loop .inv, spot-end _ _ (c .loop-test .left) _ _)

@@ -29,11 +29,21 @@ page-of-requires-2 c κs = search needs
 
 returns : tie.Need-returns
 unfolding badKind
-returns c = rw (c .before .before .enum-told .given .1) (kind-zero (kindOf (c .before .before .before .before .args .entry)) (sym (c .before .kind-of .ensures) ∙ c .if1 .taken))
+returns c =
+    let after-enum-told = c .before .before in
+    rw (after-enum-told .enum-told .given .1)
+    (kind-zero (kindOf (after-enum-told .before .before .args .entry)) (sym (c .before .kind-of .ensures) ∙ c .if1 .taken))
 
 returns-2 : tie.Need-returns-2
 unfolding badKind
-returns-2 c = rw (c .before .before .enum-told .given .1, c .before .kind-of .ensures) (kind-above (kindOf (c .before .before .before .before .args .entry)) (λ e. c .if1 .left (c .before .kind-of .ensures ∙ e)))
+returns-2 c =
+    let after-kind-of = c .before in
+    let after-enum-told = after-kind-of .before in
+    rw (
+      after-enum-told .enum-told .given .1,
+      after-kind-of .kind-of .ensures,
+    )
+    (kind-above (kindOf (after-enum-told .before .before .args .entry)) (λ e. c .if1 .left (after-kind-of .kind-of .ensures ∙ e)))
 
 returns-3 : tie.Need-returns-3
 unfolding badAddress

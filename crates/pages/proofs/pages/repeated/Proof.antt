@@ -47,15 +47,19 @@ any-entry-requires : tie.Need-any-entry-requires Inv-loop μ-loop
 any-entry-requires c κs = search needs
 
 -- a turn: the page of this entry is sought in the rest
-turned : (c : tie.After-any-entry Inv-loop μ-loop)
-    → repeated (c .before .before .before .before .before .before .before .args .pages .now) ≡ (c .any-entry .result || repeated (drop (c .before .before .before .before .before .loop .i + 1) (c .before .before .before .before .before .before .before .args .pages .now)))
-turned c =
-    let pages = c .before .before .before .before .before .before .before .args .pages .now in
+turned : (c : tie.After-any-entry Inv-loop μ-loop) →
     let at-loop = c .before .before .before .before .before in
+    let args = at-loop .before .before .args in
+    repeated (args .pages .now) ≡ (c .any-entry .result || repeated (drop (at-loop .loop .i + 1) (args .pages .now)))
+turned c =
+    let after-page-of = c .before .before in
+    let in-loop = after-page-of .before .before in
+    let at-loop = in-loop .before in
+    let pages = at-loop .before .before .args .pages .now in
     rw (
       at-loop .loop .inv,
-      repeated-turn pages (at-loop .loop .i) (c .before .before .before .before .loop-test .taken),
-      ← c .before .before .page-of .ensures,
+      repeated-turn pages (at-loop .loop .i) (in-loop .loop-test .taken),
+      ← after-page-of .page-of .ensures,
       rest-any pages (at-loop .loop .i + 1) _ _ (c .any-entry .ensures),
     )
 

@@ -36,7 +36,23 @@ word-requires-10 c κs = search needs
 
 returns : tie.Need-returns
 unfolding stateOf
-returns c = rw (c .before .before .before .before .before .before .before .before .before .word .ensures, c .before .before .before .before .before .before .before .before .word2 .ensures, c .before .before .before .before .before .before .before .word3 .ensures, c .before .before .before .before .before .before .word4 .ensures, c .before .before .before .before .before .word5 .ensures, c .before .before .before .before .word6 .ensures, c .before .before .before .word7 .ensures, c .before .before .word8 .ensures, c .before .word9 .ensures, c .word10 .ensures)
+returns c =
+    let after-word8 = c .before .before in
+    let after-word6 = after-word8 .before .before in
+    let after-word4 = after-word6 .before .before in
+    let after-word2 = after-word4 .before .before in
+    rw (
+      after-word2 .before .word .ensures,
+      after-word2 .word2 .ensures,
+      after-word4 .before .word3 .ensures,
+      after-word4 .word4 .ensures,
+      after-word6 .before .word5 .ensures,
+      after-word6 .word6 .ensures,
+      after-word8 .before .word7 .ensures,
+      after-word8 .word8 .ensures,
+      c .before .word9 .ensures,
+      c .word10 .ensures,
+    )
 
 pub state-of-spec : {M : Type 1} → statement M
 state-of-spec =

@@ -22,14 +22,23 @@ walk-requires c κs = search needs
 
 returns : tie.Need-returns
 unfolding run check
-returns c = rw (← c .before .before .before .before .in-range .ensures, sym (c .before .before .before .check .ensures) ∙ c .before .refusal .given .1)
+returns c =
+    let after-check = c .before .before .before in
+    rw (← after-check .before .in-range .ensures, sym (after-check .check .ensures) ∙ c .before .refusal .given .1)
 
 same-length : tie.Need-same-length
 same-length c = search needs
 
 returns-2 : tie.Need-returns-2
 unfolding run check
-returns-2 c = rw (← c .before .before .before .before .before .before .before .in-range .ensures, sym (c .before .before .before .before .before .before .check .ensures) ∙ c .before .before .before .before .enum-told .given .1) (c .before .before .walk .ensures)
+returns-2 c =
+    let after-walk = c .before .before in
+    let after-enum-told = after-walk .before .before in
+    let after-check = after-enum-told .before .before in
+    rw (
+      ← after-check .before .in-range .ensures,
+      sym (after-check .check .ensures) ∙ after-enum-told .enum-told .given .1,
+    ) (after-walk .walk .ensures)
 
 pub run-spec : {M : Type 1} → statement M
 run-spec =

@@ -15,13 +15,27 @@ use Rattle.replay.proofs.RunLaws.{goes-on, ends, at-end}
 use Rattle.replay.proofs.runs.walk.Statement.{statement}
 
 abbrev Inv-loop : tie.InvT-loop
-Inv-loop pages bytes₀ words listed state₀ k₀ bytes state k = (runFrom codes (lookupOf pages bytes₀) (instructionAt words) 0 listed state₀ bytes₀ ≡ runFrom codes (lookupOf pages bytes₀) (instructionAt words) k (listed - k) state bytes) × (length bytes ≡ length bytes₀) × (lookupOf pages bytes ≡ lookupOf pages bytes₀)
+Inv-loop pages bytes₀ words listed state₀ k₀ bytes state k =
+    (runFrom codes (lookupOf pages bytes₀) (instructionAt words) 0 listed state₀ bytes₀
+    ≡ runFrom codes (lookupOf pages bytes₀) (instructionAt words) k (listed - k) state bytes)
+    × (length bytes ≡ length bytes₀) × (lookupOf pages bytes ≡ lookupOf pages bytes₀)
 
 abbrev μ-loop : tie.MeasureT-loop
 μ-loop pages bytes₀ words listed state₀ k₀ bytes state k = listed - k
 
+-- Of a place, the places on the way to it, called as `tie` calls them.
+abbrev way-bytes : tie.After-bytes Inv-loop μ-loop → record {
+  at-loop : tie.At-loop Inv-loop μ-loop;
+  in-loop : tie.In-loop Inv-loop μ-loop;
+  after-nth : tie.After-nth Inv-loop μ-loop;
+}
+way-bytes c =
+    let after-nth = c .before .before .before in
+    record { at-loop = after-nth .before .before; in-loop = after-nth .before; after-nth = after-nth }
+
 loop-holds : tie.Need-loop-holds Inv-loop μ-loop
-loop-holds c = let whole : (n : ℕ) → n - 0 ≡ n = λ n. omega arith in (rw (whole (length (c .before .before .before .args .words .now) / 4)), refl, refl)
+loop-holds c = let whole : (n : ℕ) → n - 0 ≡ n = λ n. omega arith in
+    (rw (whole (length (c .before .before .before .args .words .now) / 4)), refl, refl)
 
 nth-requires : tie.Need-nth-requires Inv-loop μ-loop
 nth-requires c κs = let h = c .loop-test .taken in omega arith
@@ -36,28 +50,67 @@ add-k : tie.Need-add-k Inv-loop μ-loop
 add-k c = let h = c .before .before .before .before .before .before .before .before .loop-test .taken in omega arith
 
 loop-less : tie.Need-loop-less Inv-loop μ-loop
-loop-less c = let h = c .before .before .before .before .before .before .before .before .loop-test .taken in omega arith
+loop-less c =
+    let after-bytes = c .before .before .before .before in
+    let h = way-bytes after-bytes .in-loop .loop-test .taken in omega arith
 
 loop-again : tie.Need-loop-again Inv-loop μ-loop
-loop-again c = let inv = c .before .before .before .before .before .before .before .before .before .loop .inv in (inv .0 ∙ goes-on _ _ _ _ _ _ _ (c .before .before .before .before .before .before .before .before .loop-test .taken) (stepOf (c .before .before .before .before .before .perform .result) (c .before .before .before .before .before .perform .last .1 .1 .1 .0)) (rw (← inv .2, ← c .before .before .before .before .before .before .before .nth .ensures) (sym (c .before .before .before .before .before .perform .ensures))) (c .enum-told .given .1), c .before .before .before .before .bytes .given ∙ inv .1, lookup-kept _ _ _ (c .before .before .before .before .bytes .given ∙ inv .1))
+loop-again c =
+    let after-bytes = c .before .before .before .before in
+    let after-perform = after-bytes .before in
+    let way = way-bytes after-bytes in
+    let inv = way .at-loop .loop .inv in (
+      inv .0
+          ∙ goes-on _ _ _ _ _ _ _ (way .in-loop .loop-test .taken)
+          (stepOf (after-perform .perform .result) (after-perform .perform .last .1 .1 .1 .0))
+          (rw (← inv .2, ← way .after-nth .nth .ensures) (sym (after-perform .perform .ensures))) (c .enum-told .given .1),
+      after-bytes .bytes .given ∙ inv .1,
+      lookup-kept _ _ _ (after-bytes .bytes .given ∙ inv .1),
+    )
 
 enum-known-answer : tie.Need-enum-known-answer Inv-loop μ-loop
 enum-known-answer c = search needs
 
 same-length : tie.Need-same-length Inv-loop μ-loop
-same-length c = c .before .before .before .before .before .bytes .given ∙ c .before .before .before .before .before .before .before .before .before .before .loop .inv .1
+same-length c =
+    let after-bytes = c .before .before .before .before .before in
+    after-bytes .bytes .given ∙ way-bytes after-bytes .at-loop .loop .inv .1
 
 returns : tie.Need-returns Inv-loop μ-loop
-returns c = let inv = c .before .before .before .before .before .before .before .before .before .before .loop .inv in rw (← c .before .answer .given .1) (sym (inv .0 ∙ ends _ _ _ _ _ _ _ (c .before .before .before .before .before .before .before .before .before .loop-test .taken) (stepOf (c .before .before .before .before .before .before .perform .result) (c .before .before .before .before .before .before .perform .last .1 .1 .1 .0)) (rw (← inv .2, ← c .before .before .before .before .before .before .before .before .nth .ensures) (sym (c .before .before .before .before .before .before .perform .ensures))) (λ more end. rw (c .before .answer .given .1))))
+returns c =
+    let after-answer = c .before in
+    let after-bytes = after-answer .before .before .before .before in
+    let after-perform = after-bytes .before in
+    let way = way-bytes after-bytes in
+    let inv = way .at-loop .loop .inv in
+    rw (← after-answer .answer .given .1)
+    (sym (inv .0
+    ∙ ends _ _ _ _ _ _ _ (way .in-loop .loop-test .taken)
+    (stepOf (after-perform .perform .result) (after-perform .perform .last .1 .1 .1 .0))
+    (rw (← inv .2, ← way .after-nth .nth .ensures) (sym (after-perform .perform .ensures)))
+    (λ more end. rw (after-answer .answer .given .1))))
 
 enum-known-answer-2 : tie.Need-enum-known-answer-2 Inv-loop μ-loop
 enum-known-answer-2 c = search needs
 
 same-length-2 : tie.Need-same-length-2 Inv-loop μ-loop
-same-length-2 c = c .before .before .before .before .before .bytes .given ∙ c .before .before .before .before .before .before .before .before .before .before .loop .inv .1
+same-length-2 c =
+    let after-bytes = c .before .before .before .before .before in
+    after-bytes .bytes .given ∙ way-bytes after-bytes .at-loop .loop .inv .1
 
 returns-2 : tie.Need-returns-2 Inv-loop μ-loop
-returns-2 c = let inv = c .before .before .before .before .before .before .before .before .before .before .loop .inv in rw (← c .before .answer2 .given .1) (sym (inv .0 ∙ ends _ _ _ _ _ _ _ (c .before .before .before .before .before .before .before .before .before .loop-test .taken) (stepOf (c .before .before .before .before .before .before .perform .result) (c .before .before .before .before .before .before .perform .last .1 .1 .1 .0)) (rw (← inv .2, ← c .before .before .before .before .before .before .before .before .nth .ensures) (sym (c .before .before .before .before .before .before .perform .ensures))) (λ more end. rw (c .before .answer2 .given .1))))
+returns-2 c =
+    let after-answer2 = c .before in
+    let after-bytes = after-answer2 .before .before .before .before in
+    let after-perform = after-bytes .before in
+    let way = way-bytes after-bytes in
+    let inv = way .at-loop .loop .inv in
+    rw (← after-answer2 .answer2 .given .1)
+    (sym (inv .0
+    ∙ ends _ _ _ _ _ _ _ (way .in-loop .loop-test .taken)
+    (stepOf (after-perform .perform .result) (after-perform .perform .last .1 .1 .1 .0))
+    (rw (← inv .2, ← way .after-nth .nth .ensures) (sym (after-perform .perform .ensures)))
+    (λ more end. rw (after-answer2 .answer2 .given .1))))
 
 same-length-3 : tie.Need-same-length-3 Inv-loop μ-loop
 same-length-3 c = c .before .loop .inv .1

@@ -26,14 +26,23 @@ enum-told-5 c = search needs
 
 returns : tie.Need-returns
 unfolding checkBy
-returns c = rw (sym (c .before .before .before .of .ensures) ∙ c .before .enum-told5 .given .1, not-true (c .before .before .before .before .before .args .good) (c .if1 .taken))
+returns c =
+    let after-of = c .before .before .before in
+    rw (sym (after-of .of .ensures) ∙ c .before .enum-told5 .given .1, not-true (after-of .before .before .args .good) (c .if1 .taken))
 
 bad-words-requires : tie.Need-bad-words-requires
 bad-words-requires c κs = search needs
 
 returns-2 : tie.Need-returns-2
 unfolding checkBy
-returns-2 c = rw (sym (c .before .before .before .before .before .of .ensures) ∙ c .before .before .before .enum-told5 .given .1, not-false (c .before .before .before .before .before .before .before .args .good) (c .before .before .if1 .left), sym (c .before .bad-words .ensures) ∙ c .if2 .taken)
+returns-2 c =
+    let else1 = c .before .before in
+    let after-of = else1 .before .before .before in
+    rw (
+      sym (after-of .of .ensures) ∙ else1 .before .enum-told5 .given .1,
+      not-false (after-of .before .before .args .good) (else1 .if1 .left),
+      sym (c .before .bad-words .ensures) ∙ c .if2 .taken,
+    )
 
 returns-3 : tie.Need-returns-3
 unfolding checkBy
@@ -53,7 +62,14 @@ returns-6 c = rw (sym (c .before .before .of .ensures) ∙ c .enum-told4 .given 
 
 returns-7 : tie.Need-returns-7
 unfolding checkBy
-returns-7 c = rw (sym (c .before .before .before .before .before .of .ensures) ∙ c .before .before .before .enum-told5 .given .1, not-false (c .before .before .before .before .before .before .before .args .good) (c .before .before .if1 .left), sym (c .before .bad-words .ensures) ∙ c .if2 .left)
+returns-7 c =
+    let else1 = c .before .before in
+    let after-of = else1 .before .before .before in
+    rw (
+      sym (after-of .of .ensures) ∙ else1 .before .enum-told5 .given .1,
+      not-false (after-of .before .before .args .good) (else1 .if1 .left),
+      sym (c .before .bad-words .ensures) ∙ c .if2 .left,
+    )
 
 pub check-spec : {M : Type 1} → statement M
 check-spec =

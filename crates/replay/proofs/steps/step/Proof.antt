@@ -26,14 +26,25 @@ perform-requires c κs = search needs
 
 returns : tie.Need-returns
 unfolding step check instructionAt
-returns c = rw (c .refuse .ensures, ← c .before .before .before .before .before .in-range .ensures, sym (c .before .before .before .before .check .ensures) ∙ c .before .before .refusal .given .1)
+returns c =
+    let after-refusal = c .before .before in
+    let after-check = after-refusal .before .before in
+    rw (c .refuse .ensures, ← after-check .before .in-range .ensures, sym (after-check .check .ensures) ∙ after-refusal .refusal .given .1)
 
 same-length : tie.Need-same-length
 same-length c = search needs
 
 returns-2 : tie.Need-returns-2
 unfolding step check instructionAt
-returns-2 c = rw (← c .before .before .before .before .before .before .before .in-range .ensures, sym (c .before .before .before .before .before .before .check .ensures) ∙ c .before .before .before .before .enum-told .given .1) (c .before .before .perform .ensures)
+returns-2 c =
+    let after-perform = c .before .before in
+    let after-enum-told = after-perform .before .before in
+    let after-check = after-enum-told .before .before in
+    rw (
+      ← after-check .before .in-range .ensures,
+      sym (after-check .check .ensures) ∙ after-enum-told .enum-told .given .1,
+    )
+    (after-perform .perform .ensures)
 
 pub step-spec : {M : Type 1} → statement M
 step-spec =

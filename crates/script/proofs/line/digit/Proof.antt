@@ -22,8 +22,15 @@ returns c =
 
 returns-2 : tie.Need-returns-2
 returns-2 c =
-    let byte : ℕ = c .before .before .before .before .before .args .byte in
-    rw (le-leb 48 byte (omega arith), lt-leb byte 57 (omega arith), le-leb 97 byte (omega arith), le-leb byte 102 (omega arith), c .before .before .before .before .wide .ensures)
+    let after-wide = c .before .before .before .before in
+    let byte : ℕ = after-wide .before .args .byte in
+    rw (
+      le-leb 48 byte (omega arith),
+      lt-leb byte 57 (omega arith),
+      le-leb 97 byte (omega arith),
+      le-leb byte 102 (omega arith),
+      after-wide .wide .ensures,
+    )
 
 returns-3 : tie.Need-returns-3
 returns-3 c =
@@ -32,12 +39,14 @@ returns-3 c =
 
 returns-4 : tie.Need-returns-4
 returns-4 c =
-    let byte : ℕ = c .before .before .before .before .args .byte in
+    let args = c .before .before .before .before .args in
+    let byte : ℕ = args .byte in
     rw (le-leb 48 byte (omega arith), lt-leb byte 57 (omega arith), lt-leb 97 byte (omega arith))
 
 returns-5 : tie.Need-returns-5
 returns-5 c =
-    let byte : ℕ = c .before .before .before .before .before .args .byte in
+    let args = c .before .before .before .before .before .args in
+    let byte : ℕ = args .byte in
     rw (le-leb 48 byte (omega arith), lt-leb byte 57 (omega arith), le-leb 97 byte (omega arith), lt-leb byte 102 (omega arith))
 
 pub digit-spec : {M : Type 1} → statement M

@@ -20,9 +20,7 @@ shared-slice-read-if1 : tie.Need-shared-slice-read-if1 Inv-loop μ-loop
 shared-slice-read-if1 c = omega arith
 
 returns : tie.Need-returns Inv-loop μ-loop
-returns c =
-    let at-loop = c .before .before .before in
-    record { after = omega arith; within = omega arith; passed = at-loop .loop .inv .2; found = λ _. c .if1 .taken }
+returns c = record { after = omega arith; within = omega arith; passed = c .before .before .before .loop .inv .2; found = λ _. c .if1 .taken }
 
 add-i : tie.Need-add-i Inv-loop μ-loop
 add-i c = omega arith
@@ -31,14 +29,10 @@ loop-less : tie.Need-loop-less Inv-loop μ-loop
 loop-less c = omega arith
 
 loop-again : tie.Need-loop-again Inv-loop μ-loop
-loop-again c =
-    let at-loop = c .before .before .before in
-    (omega arith, omega arith, below-more _ _ (at-loop .loop .inv .2) (λ _ e. c .if1 .left e))
+loop-again c = (omega arith, omega arith, below-more _ _ (c .before .before .before .loop .inv .2) (λ _ e. c .if1 .left e))
 
 returns-2 : tie.Need-returns-2 Inv-loop μ-loop
-returns-2 c =
-    let at-loop = c .before in
-    record { after = omega arith; within = omega arith; passed = at-loop .loop .inv .2; found = λ more. absurd (omega arith) }
+returns-2 c = record { after = omega arith; within = omega arith; passed = c .before .loop .inv .2; found = λ more. absurd (omega arith) }
 
 pub find-byte-spec : {M : Type 1} → statement M
 find-byte-spec =

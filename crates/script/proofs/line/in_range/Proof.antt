@@ -63,16 +63,22 @@ returns-6 : tie.Need-returns-6
 returns-6 c = λ t z. rw (c .before .before .before .command .given .1) tt
 
 returns-7 : tie.Need-returns-7
-returns-7 c = λ t z. rw (c .before .before .before .before .command .given .1) tt
+returns-7 c =
+    let after-command = c .before .before .before .before in
+    λ t z. rw (after-command .command .given .1) tt
 
 returns-8 : tie.Need-returns-8
-returns-8 c = λ t z. rw (c .before .before .before .before .command .given .1) tt
+returns-8 c =
+    let after-command = c .before .before .before .before in
+    λ t z. rw (after-command .command .given .1) tt
 
 returns-9 : tie.Need-returns-9
 returns-9 c = λ t z. rw (c .before .before .before .command .given .1) tt
 
 returns-10 : tie.Need-returns-10
-returns-10 c = λ t z. rw (c .before .before .before .before .command .given .1) tt
+returns-10 c =
+    let after-command = c .before .before .before .before in
+    λ t z. rw (after-command .command .given .1) tt
 
 pub in-range-spec : {M : Type 1} → statement M
 in-range-spec =

@@ -37,10 +37,10 @@ digit-requires c κs = search needs
 
 returns-3 : tie.Need-returns-3 Inv-loop μ-loop
 returns-3 c =
-    let at-loop = c .before .before .before .before in
-    let more = c .before .before .before .loop-test .taken in
+    let in-loop = c .before .before .before in
+    let more = in-loop .loop-test .taken in
     let large = sym (ap (λ (n : ℕ). leb n 15) (c .before .digit .ensures)) ∙ lt-leb _ _ (c .if3 .taken) in
-    rw (at-loop .loop .inv .2, value-turn _ (at-loop .loop .i) _ more, large)
+    rw (in-loop .before .loop .inv .2, value-turn _ (in-loop .before .loop .i) _ more, large)
 
 room : (c : tie.In-loop Inv-loop μ-loop) → c .before .loop .value * 16 + 15 < 2 ^ 64
 room c = value-room _ _ (c .before .loop .inv .1) (omega arith)
@@ -59,12 +59,14 @@ loop-less c = omega arith
 
 loop-again : tie.Need-loop-again Inv-loop μ-loop
 loop-again c =
-    let at-loop = c .before .before .before .before in
-    let more = c .before .before .before .loop-test .taken in
-    let small = sym (ap (λ (n : ℕ). leb n 15) (c .before .digit .ensures)) ∙ le-leb _ _ (c .if3 .left) in (
+    let after-digit = c .before in
+    let in-loop = after-digit .before .before in
+    let at-loop = in-loop .before in
+    let more = in-loop .loop-test .taken in
+    let small = sym (ap (λ (n : ℕ). leb n 15) (after-digit .digit .ensures)) ∙ le-leb _ _ (c .if3 .left) in (
       omega arith,
       value-grows _ _ _ (at-loop .loop .inv .1) (c .if3 .left),
-      rw (at-loop .loop .inv .2, value-turn _ (at-loop .loop .i) _ more, small, c .before .digit .ensures),
+      rw (at-loop .loop .inv .2, value-turn _ (at-loop .loop .i) _ more, small, after-digit .digit .ensures),
     )
 
 returns-4 : tie.Need-returns-4 Inv-loop μ-loop

@@ -72,10 +72,11 @@ loop-less c = search needs
 
 loop-again : tie.Need-loop-again Inv-loop μ-loop
 loop-again c =
-    let at-loop = c .before .before .before .before .before .before .before .before .before in
+    let after-n = c .before .before .before in
+    let at-loop = after-n .before .before .before .before .before .before in
     let allowed = c .before .allows .ensures (not-false _ (c .if1 .left)) in
     let command = at-loop .before .before .args .command in
-    let n = c .before .before .before .n .given .0 .0 in (
+    let n = after-n .n .given .0 .0 in (
       omega arith,
       omega (arith, allowed .few),
       simp length-set (at-loop .loop .inv .2),

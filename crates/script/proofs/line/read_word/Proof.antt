@@ -87,23 +87,23 @@ returns-9 c = c .before .same9 .ensures .0 (c .if9 .taken)
 
 returns-10 : tie.Need-returns-10
 returns-10 c =
-    let at-8 = c .before .before .before in
-    let at-7 = at-8 .before .before .before in
-    let at-6 = at-7 .before .before .before in
-    let at-5 = at-6 .before .before .before in
-    let at-4 = at-5 .before .before .before in
-    let at-3 = at-4 .before .before .before in
-    let at-2 = at-3 .before .before .before in
-    let at-1 = at-2 .before .before .before in
+    let else8 = c .before .before .before in
+    let else7 = else8 .before .before .before in
+    let else6 = else7 .before .before .before in
+    let else5 = else6 .before .before .before in
+    let else4 = else5 .before .before .before in
+    let else3 = else4 .before .before .before in
+    let else2 = else3 .before .before .before in
+    let else1 = else2 .before .before .before in
     no-word _
-    (λ e. not-both _ (at-1 .if1 .left) (at-1 .before .same .ensures .1 e))
-    (λ e. not-both _ (at-2 .if2 .left) (at-2 .before .same2 .ensures .1 e))
-    (λ e. not-both _ (at-3 .if3 .left) (at-3 .before .same3 .ensures .1 e))
-    (λ e. not-both _ (at-4 .if4 .left) (at-4 .before .same4 .ensures .1 e))
-    (λ e. not-both _ (at-5 .if5 .left) (at-5 .before .same5 .ensures .1 e))
-    (λ e. not-both _ (at-6 .if6 .left) (at-6 .before .same6 .ensures .1 e))
-    (λ e. not-both _ (at-7 .if7 .left) (at-7 .before .same7 .ensures .1 e))
-    (λ e. not-both _ (at-8 .if8 .left) (at-8 .before .same8 .ensures .1 e))
+    (λ e. not-both _ (else1 .if1 .left) (else1 .before .same .ensures .1 e))
+    (λ e. not-both _ (else2 .if2 .left) (else2 .before .same2 .ensures .1 e))
+    (λ e. not-both _ (else3 .if3 .left) (else3 .before .same3 .ensures .1 e))
+    (λ e. not-both _ (else4 .if4 .left) (else4 .before .same4 .ensures .1 e))
+    (λ e. not-both _ (else5 .if5 .left) (else5 .before .same5 .ensures .1 e))
+    (λ e. not-both _ (else6 .if6 .left) (else6 .before .same6 .ensures .1 e))
+    (λ e. not-both _ (else7 .if7 .left) (else7 .before .same7 .ensures .1 e))
+    (λ e. not-both _ (else8 .if8 .left) (else8 .before .same8 .ensures .1 e))
     (λ e. not-both _ (c .if9 .left) (c .before .same9 .ensures .1 e))
 
 pub read-word-spec : {M : Type 1} → statement M

@@ -31,8 +31,9 @@ value-requires c κs = search needs
 
 returns-2 : tie.Need-returns-2
 returns-2 c =
-    let text = c .before .before .before .before .before .args .text .now in
-    let at = c .before .before .before .before .before .args .at in
+    let args = c .before .before .before .before .before .args in
+    let text = args .text .now in
+    let at = args .at in
     let all : length (drop at text) ≤ 16 = rw (length-drop at text) (omega arith) in
     rw (c .value .ensures, rest-whole text at, take-all 16 (drop at text) all)
 
@@ -53,7 +54,8 @@ value-requires-2 c κs = search needs
 
 returns-3 : tie.Need-returns-3
 returns-3 c =
-    let same : c .before .before .before .before .before .args .at + 16 - c .before .before .before .before .before .args .at ≡ 16 = omega arith in
+    let args = c .before .before .before .before .before .args in
+    let same : args .at + 16 - args .at ≡ 16 = omega arith in
     rw (c .value2 .ensures, same)
 
 pub number-spec : {M : Type 1} → statement M

@@ -29,7 +29,10 @@ digit-value-requires : tie.Need-digit-value-requires Inv-loop μ-loop
 digit-value-requires c κs = search needs
 
 add-v : tie.Need-add-v Inv-loop μ-loop
-add-v c = let room = value-room _ _ (c .before .before .before .loop .inv .1) (omega arith) in let small = digit-below (getD (c .before .before .before .before .before .args .digits .now) (c .before .before .before .loop .i) 0) in rw (c .digit-value .ensures) (omega arith)
+add-v c =
+    let at-loop = c .before .before .before in
+    let room = value-room _ _ (at-loop .loop .inv .1) (omega arith) in
+    let small = digit-below (getD (at-loop .before .before .args .digits .now) (at-loop .loop .i) 0) in rw (c .digit-value .ensures) (omega arith)
 
 add-i : tie.Need-add-i Inv-loop μ-loop
 add-i c = omega arith
@@ -39,8 +42,13 @@ loop-less c = omega arith
 
 loop-again : tie.Need-loop-again Inv-loop μ-loop
 loop-again c =
-    let small = digit-below (getD (c .before .before .before .before .before .args .digits .now) (c .before .before .before .loop .i) 0) in
-    rw (c .digit-value .ensures) (c .before .before .before .loop .inv .0 ∙ value-turn _ _ _ (c .before .before .loop-test .taken), value-grows _ _ _ (c .before .before .before .loop .inv .1) small)
+    let in-loop = c .before .before in
+    let at-loop = in-loop .before in
+    let small = digit-below (getD (at-loop .before .before .args .digits .now) (at-loop .loop .i) 0) in
+    rw (c .digit-value .ensures) (
+      at-loop .loop .inv .0 ∙ value-turn _ _ _ (in-loop .loop-test .taken),
+      value-grows _ _ _ (at-loop .loop .inv .1) small,
+    )
 
 returns : tie.Need-returns Inv-loop μ-loop
 unfolding valueOf

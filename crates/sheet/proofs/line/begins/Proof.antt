@@ -32,7 +32,14 @@ fits-mark-requires : tie.Need-fits-mark-requires Inv-loop μ-loop
 fits-mark-requires c κs = search needs
 
 returns-2 : tie.Need-returns-2 Inv-loop μ-loop
-returns-2 c = rw (c .before .before .before .before .before .before .loop .inv, begins-turn _ _ _ (c .before .before .before .before .before .loop-test .taken) (c .before .before .before .before .if1 .left), sym (c .before .fits-mark .ensures) ∙ not-true (c .before .fits-mark .result) (c .if2 .taken))
+returns-2 c =
+    let after-fits-mark = c .before in
+    let else1 = after-fits-mark .before .before .before in
+    rw (
+      else1 .before .before .loop .inv,
+      begins-turn _ _ _ (else1 .before .loop-test .taken) (else1 .if1 .left),
+      sym (after-fits-mark .fits-mark .ensures) ∙ not-true (after-fits-mark .fits-mark .result) (c .if2 .taken),
+    )
 
 add-i : tie.Need-add-i Inv-loop μ-loop
 add-i c = omega arith
@@ -41,7 +48,14 @@ loop-less : tie.Need-loop-less Inv-loop μ-loop
 loop-less c = omega arith
 
 loop-again : tie.Need-loop-again Inv-loop μ-loop
-loop-again c = rw (c .before .before .before .before .before .before .loop .inv, begins-turn _ _ _ (c .before .before .before .before .before .loop-test .taken) (c .before .before .before .before .if1 .left), sym (c .before .fits-mark .ensures) ∙ not-false (c .before .fits-mark .result) (c .if2 .left))
+loop-again c =
+    let after-fits-mark = c .before in
+    let else1 = after-fits-mark .before .before .before in
+    rw (
+      else1 .before .before .loop .inv,
+      begins-turn _ _ _ (else1 .before .loop-test .taken) (else1 .if1 .left),
+      sym (after-fits-mark .fits-mark .ensures) ∙ not-false (after-fits-mark .fits-mark .result) (c .if2 .left),
+    )
 
 returns-3 : tie.Need-returns-3 Inv-loop μ-loop
 returns-3 c = rw (c .before .loop .inv, begins-end _ _ _ (c .loop-test .left))

@@ -33,7 +33,10 @@ loop-less : tie.Need-loop-less Inv-loop μ-loop
 loop-less c = omega arith
 
 loop-again : tie.Need-loop-again Inv-loop μ-loop
-loop-again c = let room : c .before .before .before .args .at + c .before .before .loop .i < length (c .before .before .loop .text) = omega arith in (c .before .before .loop .inv .0 ∙ laid-element _ _ _ _ (c .before .loop-test .taken) room, rw length-set (c .before .before .loop .inv .1))
+loop-again c =
+    let at-loop = c .before .before in
+    let room : at-loop .before .args .at + at-loop .loop .i < length (at-loop .loop .text) = omega arith in
+    (at-loop .loop .inv .0 ∙ laid-element _ _ _ _ (c .before .loop-test .taken) room, rw length-set (at-loop .loop .inv .1))
 
 same-length : tie.Need-same-length Inv-loop μ-loop
 same-length c = c .before .loop .inv .1

@@ -35,10 +35,15 @@ loop-less c = omega arith
 
 loop-again : tie.Need-loop-again Inv-loop μ-loop
 loop-again c =
-    let left : ℕ = c .before .before .loop .left in
+    let at-loop = c .before .before in
+    let args = at-loop .before .before .args in
+    let left : ℕ = at-loop .loop .left in
     let one : left - 1 + 1 ≡ left = omega arith in
-    let room : c .before .before .before .before .args .at + (left - 1) < length (c .before .before .loop .text) = omega arith in
-    (c .before .before .loop .inv .0 ∙ rw (c .digit .ensures) (rw one at (hex-turn (c .before .before .loop .text) (c .before .before .before .before .args .at) (left - 1) (c .before .before .loop .v) room)), rw length-set (c .before .before .loop .inv .1), omega arith)
+    let room : args .at + (left - 1) < length (at-loop .loop .text) = omega arith in (
+      at-loop .loop .inv .0 ∙ rw (c .digit .ensures) (rw one at (hex-turn (at-loop .loop .text) (args .at) (left - 1) (at-loop .loop .v) room)),
+      rw length-set (at-loop .loop .inv .1),
+      omega arith,
+    )
 
 same-length : tie.Need-same-length Inv-loop μ-loop
 same-length c = c .before .loop .inv .1

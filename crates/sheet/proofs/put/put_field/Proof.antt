@@ -28,8 +28,11 @@ same-length c = search needs
 returns : tie.Need-returns
 unfolding number
 returns c =
-    let room : c .before .before .before .before .before .before .before .before .before .before .args .at + 2 ≤ length (c .before .before .before .before .before .before .before .before .before .before .args .text .now) = omega (arith, c .before .before .before .before .before .before .before .before .before .before .pre) in
-    rw (c .before .before .put-digits .ensures, c .before .before .before .before .before .before .copy .ensures) (sym (laid-turn _ _ (tab ∷ letterX ∷ []) (hex 16 _) room))
+    let after-put-digits = c .before .before in
+    let after-copy = after-put-digits .before .before .before .before in
+    let start = after-copy .before .before .before .before in
+    let room : start .args .at + 2 ≤ length (start .args .text .now) = omega (arith, start .pre) in
+    rw (after-put-digits .put-digits .ensures, after-copy .copy .ensures) (sym (laid-turn _ _ (tab ∷ letterX ∷ []) (hex 16 _) room))
 
 pub put-field-spec : {M : Type 1} → statement M
 put-field-spec =

@@ -28,13 +28,19 @@ shared-slice-read-put-field : tie.Need-shared-slice-read-put-field Inv-loop μ-l
 shared-slice-read-put-field c = omega arith
 
 mul-put-field-2 : tie.Need-mul-put-field-2 Inv-loop μ-loop
-mul-put-field-2 c = omega (arith, fields-length (c .before .before .before .before .before .before .args .values .now), c .before .before .before .before .before .before .pre)
+mul-put-field-2 c =
+    let start = c .before .before .before .before .before .before in
+    omega (arith, fields-length (start .args .values .now), start .pre)
 
 add-put-field : tie.Need-add-put-field Inv-loop μ-loop
-add-put-field c = omega (arith, fields-length (c .before .before .before .before .before .before .args .values .now), c .before .before .before .before .before .before .pre)
+add-put-field c =
+    let start = c .before .before .before .before .before .before in
+    omega (arith, fields-length (start .args .values .now), start .pre)
 
 put-field-requires : tie.Need-put-field-requires Inv-loop μ-loop
-put-field-requires c κs = omega (arith, fields-length (c .before .before .before .before .before .before .args .values .now), c .before .before .before .before .before .before .pre)
+put-field-requires c κs =
+    let start = c .before .before .before .before .before .before in
+    omega (arith, fields-length (start .args .values .now), start .pre)
 
 add-i : tie.Need-add-i Inv-loop μ-loop
 add-i c = omega arith
@@ -44,11 +50,19 @@ loop-less c = omega arith
 
 loop-again : tie.Need-loop-again Inv-loop μ-loop
 loop-again c =
-    let text = c .before .before .before .before .before .before .loop .text in
-    let values = c .before .before .before .before .before .before .before .before .before .args .values .now in
-    let i = c .before .before .before .before .before .before .loop .i in
-    let room : c .before .before .before .before .before .before .before .before .before .args .at + 18 * i + 18 ≤ length text = omega (arith, fields-length values, c .before .before .before .before .before .before .before .before .before .pre) in
-    (c .before .before .before .before .before .before .loop .inv .0 ∙ (fields-turn text (c .before .before .before .before .before .before .before .before .before .args .at) values i (c .before .before .before .before .before .loop-test .taken) room ∙ rw (c .before .before .put-field .ensures)), c .before .text .given ∙ c .before .before .before .before .before .before .loop .inv .1, omega arith)
+    let after-put-field = c .before .before in
+    let in-loop = after-put-field .before .before .before in
+    let at-loop = in-loop .before in
+    let start = at-loop .before .before .before in
+    let text = at-loop .loop .text in
+    let values = start .args .values .now in
+    let i = at-loop .loop .i in
+    let room : start .args .at + 18 * i + 18 ≤ length text = omega (arith, fields-length values, start .pre) in (
+      at-loop .loop .inv .0
+          ∙ (fields-turn text (start .args .at) values i (in-loop .loop-test .taken) room ∙ rw (after-put-field .put-field .ensures)),
+      c .before .text .given ∙ at-loop .loop .inv .1,
+      omega arith,
+    )
 
 same-length : tie.Need-same-length Inv-loop μ-loop
 same-length c = c .before .loop .inv .1

@@ -42,7 +42,19 @@ same-length-4 : tie.Need-same-length-4
 same-length-4 c = search needs
 
 returns : tie.Need-returns
-returns c = rw (c .before .before .before .before .before .before .before .before .before .before .before .before .before .before .before .before .fill-lines .ensures, c .before .before .before .before .before .before .before .before .before .before .before .before .fill-lines2 .ensures, c .before .before .before .before .before .before .before .before .fill-pages .ensures, c .before .before .fill-lines3 .ensures) (sym (filled-is _ _ (c .before .before .before .before .before .before .before .before .before .before .before .before .before .before .before .before .before .before .before .before .before .before .before .pre .0) _))
+returns c =
+    let after-fill-lines3 = c .before .before in
+    let after-fill-pages = after-fill-lines3 .before .before .before .before .before .before in
+    let after-fill-lines2 = after-fill-pages .before .before .before .before in
+    let after-fill-lines = after-fill-lines2 .before .before .before .before in
+    let start = after-fill-lines .before .before .before .before .before .before .before in
+    rw (
+      after-fill-lines .fill-lines .ensures,
+      after-fill-lines2 .fill-lines2 .ensures,
+      after-fill-pages .fill-pages .ensures,
+      after-fill-lines3 .fill-lines3 .ensures,
+    )
+    (sym (filled-is _ _ (start .pre .0) _))
 
 pub fill-all-spec : {M : Type 1} → statement M
 fill-all-spec =

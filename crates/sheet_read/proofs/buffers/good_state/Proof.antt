@@ -27,7 +27,15 @@ in-range-requires : tie.Need-in-range-requires
 in-range-requires c κs = search needs
 
 returns : tie.Need-returns
-returns c = c .in-range .ensures ∙ ap inRange (c .before .state-of .ensures ∙ ap stateOf (c .before .before .before .before .fill-lines .ensures ∙ laid-whole _ _ (numbers-length State 1 (drop stateAt (c .before .before .before .before .before .before .before .args .text .now)) (c .before .before .before .before .before .before .before .pre))))
+returns c =
+    let after-fill-lines = c .before .before .before .before in
+    let start = after-fill-lines .before .before .before in
+    c .in-range .ensures
+    ∙ ap inRange
+    (c .before .state-of .ensures
+    ∙ ap stateOf
+    (after-fill-lines .fill-lines .ensures
+    ∙ laid-whole _ _ (numbers-length State 1 (drop stateAt (start .args .text .now)) (start .pre))))
 
 pub good-state-spec : {M : Type 1} → statement M
 good-state-spec =

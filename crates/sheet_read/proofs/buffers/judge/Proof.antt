@@ -30,9 +30,13 @@ array-share-prefix-entries c = search needs
 abbrev start : tie.After-entries3 → tie.Start
 start c = c .before .before .before .before .before .before .before
 
-listed : (c : tie.After-entries3) → take (start c .args .shape .pages) (c .before .before .fill-lines .last .1 .1 .1 .1 .0) ≡ entriesIn (start c .args .shape .pages) (drop bodyAt (start c .args .text .now))
+listed : (c : tie.After-entries3) →
+    take (start c .args .shape .pages) (c .before .before .fill-lines .last .1 .1 .1 .1 .0)
+    ≡ entriesIn (start c .args .shape .pages) (drop bodyAt (start c .args .text .now))
 unfolding entriesIn
-listed c = ap (take (start c .args .shape .pages)) (c .before .before .fill-lines .ensures) ∙ laid-front _ _ (start c .args .shape .pages) (pages-long _ _ (start c .pre))
+listed c =
+    ap (take (start c .args .shape .pages)) (c .before .before .fill-lines .ensures)
+    ∙ laid-front _ _ (start c .args .shape .pages) (pages-long _ _ (start c .pre))
 
 slice-aggregate-check : tie.Need-slice-aggregate-check
 slice-aggregate-check c = sym (ap length (listed c) ∙ pages-long _ _ (start c .pre))
@@ -47,7 +51,13 @@ check-requires : tie.Need-check-requires
 check-requires c κs = search needs
 
 returns-2 : tie.Need-returns-2
-returns-2 c = c .check .ensures ∙ (ap₂ (λ (entries : List ℕ) (good : Bool). checkBy entries (pageBytes * start (c .before .before) .args .shape .pages) good (4 * start (c .before .before) .args .shape .steps)) (listed (c .before .before)) (c .before .before .before .before .before .before .good-state .ensures) ∙ sym (tested-is _ _ (start (c .before .before) .pre)))
+returns-2 c =
+    let after-entries3 = c .before .before in
+    let after-good-state = after-entries3 .before .before .before .before in
+    c .check .ensures
+    ∙ (ap₂ (λ (entries : List ℕ) (good : Bool). checkBy entries (pageBytes * start after-entries3 .args .shape .pages) good
+    (4 * start after-entries3 .args .shape .steps)) (listed after-entries3) (after-good-state .good-state .ensures)
+    ∙ sym (tested-is _ _ (start after-entries3 .pre)))
 
 pub judge-spec : {M : Type 1} → statement M
 judge-spec =

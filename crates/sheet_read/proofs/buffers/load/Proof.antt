@@ -29,11 +29,17 @@ lent c = record { state = start c .args .state .now; pages = start c .args .page
 returns : tie.Need-returns
 returns c = sym (too-long _ _ (start (c .before) .pre .0) (lent (c .before)) (sym (c .before .fits2 .ensures) ∙ not-true _ (c .if1 .taken)))
 
-room : (c : tie.Else1) → roomFor (sizesAt (start (c .before) .args .shape)) (length (lent (c .before) .state)) (length (lent (c .before) .pages)) (length (lent (c .before) .bytes)) (length (lent (c .before) .words)) ≡ true
+room : (c : tie.Else1) →
+    let after-fits2 = c .before in
+    roomFor (sizesAt (start after-fits2 .args .shape)) (length (lent after-fits2 .state)) (length (lent after-fits2 .pages))
+    (length (lent after-fits2 .bytes)) (length (lent after-fits2 .words))
+    ≡ true
 room c = sym (c .before .fits2 .ensures) ∙ not-false _ (c .if1 .left)
 
 fill-all-requires : tie.Need-fill-all-requires
-fill-all-requires c κs = let parts = room-parts _ _ _ _ _ (room (c .before .before .before .before)) in (start (c .before .before .before .before .before) .pre .0, parts .0, parts .1, parts .2, parts .3)
+fill-all-requires c κs =
+    let else1 = c .before .before .before .before in
+    let parts = room-parts _ _ _ _ _ (room else1) in (start (else1 .before) .pre .0, parts .0, parts .1, parts .2, parts .3)
 
 same-length : tie.Need-same-length
 same-length c = search needs
@@ -48,7 +54,10 @@ same-length-4 : tie.Need-same-length-4
 same-length-4 c = search needs
 
 returns-2 : tie.Need-returns-2
-returns-2 c = sym (loaded _ _ (start (c .before .before .before .before .before .before .before .before .before .before .before .before .before .before) .pre .0) (lent (c .before .before .before .before .before .before .before .before .before .before .before .before .before .before)) (room (c .before .before .before .before .before .before .before .before .before .before .before .before .before)) _ (c .before .before .before .before .before .before .before .before .fill-all .ensures))
+returns-2 c =
+    let after-fill-all = c .before .before .before .before .before .before .before .before in
+    let else1 = after-fill-all .before .before .before .before .before in
+    sym (loaded _ _ (start (else1 .before) .pre .0) (lent (else1 .before)) (room else1) _ (after-fill-all .fill-all .ensures))
 
 pub load-spec : {M : Type 1} → statement M
 load-spec =

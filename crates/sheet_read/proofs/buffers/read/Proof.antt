@@ -21,7 +21,9 @@ abbrev text : tie.After-scan-sheet → List ℕ
 text c = c .before .before .before .before .before .before .args .text .now
 
 shaped : (c : tie.After-shape) → Shaped (text (c .before .before)) (c .shape .given .0 .0)
-shaped c = subst (Scanned (text (c .before .before))) (c .shape .given .1) (c .before .before .scan-sheet .ensures)
+shaped c =
+    let after-scan-sheet = c .before .before in
+    subst (Scanned (text after-scan-sheet)) (c .shape .given .1) (after-scan-sheet .scan-sheet .ensures)
 
 judge-requires : tie.Need-judge-requires
 judge-requires c κs = shaped (c .before)
@@ -33,13 +35,23 @@ enum-told : tie.Need-enum-told
 enum-told c = search needs
 
 load-requires : tie.Need-load-requires
-load-requires c κs = (shaped (c .before .before .before .before .before .before .before .before), few-pages _ _ (shaped (c .before .before .before .before .before .before .before .before)) (sym (c .before .before .before .before .before .before .judge .ensures) ∙ c .before .before .before .before .enum-told .given .1))
+load-requires c κs =
+    let after-enum-told = c .before .before .before .before in
+    let after-judge = after-enum-told .before .before in
+    let after-shape = after-judge .before .before in
+    (shaped after-shape, few-pages _ _ (shaped after-shape) (sym (after-judge .judge .ensures) ∙ after-enum-told .enum-told .given .1))
 
 returns : tie.Need-returns
-returns c = sym (no-sheet (text (c .before .before .before)) _ _ (subst (Scanned (text (c .before .before .before))) (c .before .line .given .1) (c .before .before .before .scan-sheet .ensures)))
+returns c =
+    let after-scan-sheet = c .before .before .before in
+    sym (no-sheet (text after-scan-sheet) _ _
+    (subst (Scanned (text after-scan-sheet)) (c .before .line .given .1) (after-scan-sheet .scan-sheet .ensures)))
 
 returns-2 : tie.Need-returns-2
-returns-2 c = sym (refused _ _ (shaped (c .before .before .before .before .before)) _ _ (sym (c .before .before .before .judge .ensures) ∙ c .before .refusal .given .1))
+returns-2 c =
+    let after-judge = c .before .before .before in
+    let after-shape = after-judge .before .before in
+    sym (refused _ _ (shaped after-shape) _ _ (sym (after-judge .judge .ensures) ∙ c .before .refusal .given .1))
 
 same-length : tie.Need-same-length
 same-length c = search needs
@@ -54,7 +66,12 @@ same-length-4 : tie.Need-same-length-4
 same-length-4 c = search needs
 
 returns-3 : tie.Need-returns-3
-returns-3 c = c .before .before .before .before .before .before .before .before .load .ensures ∙ sym (passed _ _ (shaped (c .before .before .before .before .before .before .before .before .before .before .before .before .before .before .before .before .before)) _ (sym (c .before .before .before .before .before .before .before .before .before .before .before .before .before .before .before .judge .ensures) ∙ c .before .before .before .before .before .before .before .before .before .before .before .before .before .enum-told .given .1))
+returns-3 c =
+    let after-load = c .before .before .before .before .before .before .before .before in
+    let after-enum-told = after-load .before .before .before .before .before in
+    let after-judge = after-enum-told .before .before in
+    let after-shape = after-judge .before .before in
+    after-load .load .ensures ∙ sym (passed _ _ (shaped after-shape) _ (sym (after-judge .judge .ensures) ∙ after-enum-told .enum-told .given .1))
 
 pub read-spec : {M : Type 1} → statement M
 read-spec =

@@ -12,7 +12,9 @@ use Rattle.sheet_read.proofs.fill.fill_line.Statement.{statement}
 use Rattle.sheet_read.proofs.fill.fill_line.Tie as tie
 
 abbrev Inv-loop : tie.InvT-loop
-Inv-loop line text at out₀ to i₀ out i = (laid out₀ to (values line (take (width line) (drop at text))) ≡ laid out (to + i) (drop i (values line (take (width line) (drop at text))))) × (length out ≡ length out₀)
+Inv-loop line text at out₀ to i₀ out i =
+    (laid out₀ to (values line (take (width line) (drop at text))) ≡ laid out (to + i) (drop i (values line (take (width line) (drop at text)))))
+    × (length out ≡ length out₀)
 
 abbrev μ-loop : tie.MeasureT-loop
 μ-loop line text at out₀ to i₀ out i = fieldCount line - i
@@ -29,8 +31,14 @@ count-requires c κs = search needs
 first-requires : tie.Need-first-requires Inv-loop μ-loop
 first-requires c κs = search needs
 
-inside : (c : tie.After-first Inv-loop μ-loop) → start (c .before .before .before) .args .at + c .first .result + 18 * c .before .before .before .loop .i ≤ length (start (c .before .before .before) .args .text .now)
-inside c = digits-in (start (c .before .before .before) .args .line) (start (c .before .before .before) .args .text .now) (start (c .before .before .before) .args .at) _ (start (c .before .before .before) .pre .0) (c .first .ensures) (c .before .before .before .loop .i) (rw (c .before .before .count .ensures) at (c .before .if1 .taken))
+inside : (c : tie.After-first Inv-loop μ-loop) →
+    let at-loop = c .before .before .before in
+    start at-loop .args .at + c .first .result + 18 * at-loop .loop .i ≤ length (start at-loop .args .text .now)
+inside c =
+    let after-count = c .before .before in
+    let at-loop = after-count .before in
+    digits-in (start at-loop .args .line) (start at-loop .args .text .now) (start at-loop .args .at) _ (start at-loop .pre .0) (c .first .ensures)
+    (at-loop .loop .i) (rw (after-count .count .ensures) at (c .before .if1 .taken))
 
 add-number : tie.Need-add-number Inv-loop μ-loop
 add-number c = omega (arith, inside c)
@@ -69,13 +77,23 @@ loop-less : tie.Need-loop-less Inv-loop μ-loop
 loop-less c = let h = less c in omega arith
 
 loop-again : tie.Need-loop-again Inv-loop μ-loop
-loop-again c = (loopAt c .loop .inv .0 ∙ field-turn (start (loopAt c) .args .line) (start (loopAt c) .args .text .now) (start (loopAt c) .args .at) _ (start (loopAt c) .pre .0) (c .before .first .ensures) (loopAt c .loop .out) (start (loopAt c) .args .to) (loopAt c .loop .i) _ (less c) (room c) (c .number .ensures), rw length-set (loopAt c .loop .inv .1))
+loop-again c = (
+  loopAt c .loop .inv .0
+      ∙ field-turn (start (loopAt c) .args .line) (start (loopAt c) .args .text .now) (start (loopAt c) .args .at) _
+      (start (loopAt c) .pre .0) (c .before .first .ensures) (loopAt c .loop .out) (start (loopAt c) .args .to) (loopAt c .loop .i) _
+      (less c) (room c) (c .number .ensures),
+  rw length-set (loopAt c .loop .inv .1),
+)
 
 same-length : tie.Need-same-length Inv-loop μ-loop
 same-length c = c .before .before .loop .inv .1
 
 returns : tie.Need-returns Inv-loop μ-loop
-returns c = sym (c .before .before .loop .inv .0 ∙ field-end (start (c .before .before) .args .line) (start (c .before .before) .args .text .now) (start (c .before .before) .args .at) _ (start (c .before .before) .pre .0) refl _ (start (c .before .before) .args .to) _ (rw (c .before .count .ensures) at (c .if1 .left)))
+returns c =
+    let at-loop = c .before .before in
+    sym (at-loop .loop .inv .0
+    ∙ field-end (start at-loop .args .line) (start at-loop .args .text .now) (start at-loop .args .at) _ (start at-loop .pre .0) refl _
+    (start at-loop .args .to) _ (rw (c .before .count .ensures) at (c .if1 .left)))
 
 pub fill-line-spec : {M : Type 1} → statement M
 fill-line-spec =

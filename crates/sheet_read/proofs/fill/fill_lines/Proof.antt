@@ -16,7 +16,9 @@ use Rattle.sheet_read.proofs.fill.fill_lines.Statement.{statement}
 use Rattle.sheet_read.proofs.fill.fill_lines.Tie as tie
 
 abbrev Inv-loop : tie.InvT-loop
-Inv-loop line text at n out₀ here₀ to₀ left₀ out here to left = (laid out₀ 0 (numbers line (take n (lines (drop at text)))) ≡ laid out to (numbers line (take left (lines (drop here text))))) × Lead line left (lines (drop here text)) × (to + fieldCount line * left ≤ length out) × (length out ≡ length out₀)
+Inv-loop line text at n out₀ here₀ to₀ left₀ out here to left =
+    (laid out₀ 0 (numbers line (take n (lines (drop at text)))) ≡ laid out to (numbers line (take left (lines (drop here text)))))
+    × Lead line left (lines (drop here text)) × (to + fieldCount line * left ≤ length out) × (length out ≡ length out₀)
 
 abbrev μ-loop : tie.MeasureT-loop
 μ-loop line text at n out₀ here₀ to₀ left₀ out here to left = left
@@ -25,14 +27,24 @@ abbrev start : tie.At-loop Inv-loop μ-loop → tie.Start Inv-loop μ-loop
 start c = c .before .before .before
 
 loop-holds : tie.Need-loop-holds Inv-loop μ-loop
-loop-holds c = (refl, c .before .before .pre .0, omega (arith, c .before .before .pre .1), refl)
+loop-holds c =
+    let entry = c .before .before in
+    (refl, entry .pre .0, omega (arith, entry .pre .1), refl)
 
-front : (c : tie.In-loop Inv-loop μ-loop) → begins (form (start (c .before) .args .line)) (drop (c .before .loop .here) (start (c .before) .args .text .now)) ≡ true
-front c = lead-front (start (c .before) .args .line) (c .before .loop .left) (start (c .before) .args .text .now) (c .before .loop .here) (c .before .loop .inv .1) (c .loop-test .taken)
+front : (c : tie.In-loop Inv-loop μ-loop) →
+    begins (form (start (c .before) .args .line)) (drop (c .before .loop .here) (start (c .before) .args .text .now)) ≡ true
+front c =
+    let at-loop = c .before in
+    lead-front (start at-loop .args .line) (at-loop .loop .left) (start at-loop .args .text .now) (at-loop .loop .here) (at-loop .loop .inv .1)
+    (c .loop-test .taken)
 
-fits : (c : tie.After-fill-line-arg Inv-loop μ-loop) → c .before .before .loop .to + fieldCount (start (c .before .before) .args .line) ≤ length (c .before .before .loop .out)
+fits : (c : tie.After-fill-line-arg Inv-loop μ-loop) →
+    let at-loop = c .before .before in
+    at-loop .loop .to + fieldCount (start at-loop .args .line) ≤ length (at-loop .loop .out)
 fits c =
-    line-fits (start (c .before .before) .args .line) (start (c .before .before) .args .text .now) (c .before .before .loop .here) (c .before .before .loop .left) (c .before .loop-test .taken) (c .before .before .loop .inv .1) (c .before .before .loop .out) (c .before .before .loop .to) (c .before .before .loop .inv .2)
+    let at-loop = c .before .before in
+    line-fits (start at-loop .args .line) (start at-loop .args .text .now) (at-loop .loop .here) (at-loop .loop .left) (c .before .loop-test .taken)
+    (at-loop .loop .inv .1) (at-loop .loop .out) (at-loop .loop .to) (at-loop .loop .inv .2)
 
 fill-line-requires : tie.Need-fill-line-requires Inv-loop μ-loop
 fill-line-requires c κs = (front (c .before), fits c)
@@ -41,13 +53,19 @@ width-requires : tie.Need-width-requires Inv-loop μ-loop
 width-requires c κs = search needs
 
 add-here : tie.Need-add-here Inv-loop μ-loop
-add-here c = let wide = c .width .ensures in let past = line-past (start (c .before .before .before .before .before .before) .args .line) (start (c .before .before .before .before .before .before) .args .text .now) (c .before .before .before .before .before .before .loop .here) (front (c .before .before .before .before .before)) in omega arith
+add-here c =
+    let in-loop = c .before .before .before .before .before in
+    let at-loop = in-loop .before in
+    let wide = c .width .ensures in
+    let past = line-past (start at-loop .args .line) (start at-loop .args .text .now) (at-loop .loop .here) (front in-loop) in omega arith
 
 count-requires : tie.Need-count-requires Inv-loop μ-loop
 count-requires c κs = search needs
 
 add-to : tie.Need-add-to Inv-loop μ-loop
-add-to c = let few = c .count .ensures in let room = fits (c .before .before .before .before .before) in omega arith
+add-to c =
+    let after-fill-line-arg = c .before .before .before .before .before in
+    let few = c .count .ensures in let room = fits after-fill-line-arg in omega arith
 
 sub-left : tie.Need-sub-left Inv-loop μ-loop
 sub-left c = search needs
@@ -62,12 +80,25 @@ more : (c : tie.After-count Inv-loop μ-loop) → 0 < loopAt c .loop .left
 more c = c .before .before .before .before .before .before .loop-test .taken
 
 loop-again : tie.Need-loop-again Inv-loop μ-loop
-loop-again c = (
-  rw (c .count .ensures, c .before .width .ensures, c .before .before .before .before .fill-line .ensures) (loopAt c .loop .inv .0 ∙ line-turn (start (loopAt c) .args .line) (start (loopAt c) .args .text .now) (loopAt c .loop .here) (loopAt c .loop .left) (more c) (loopAt c .loop .inv .1) (loopAt c .loop .out) (loopAt c .loop .to) (loopAt c .loop .inv .2)),
-  rw (c .before .width .ensures) (lead-next (start (loopAt c) .args .line) (loopAt c .loop .left) (start (loopAt c) .args .text .now) (loopAt c .loop .here) (loopAt c .loop .inv .1) (more c)),
-  rw (c .count .ensures, c .before .before .before .out .given) (rest-fits (start (loopAt c) .args .line) (start (loopAt c) .args .text .now) (loopAt c .loop .here) (loopAt c .loop .left) (more c) (loopAt c .loop .inv .1) (loopAt c .loop .out) (loopAt c .loop .to) (loopAt c .loop .inv .2)),
-  c .before .before .before .out .given ∙ loopAt c .loop .inv .3,
-)
+loop-again c =
+    let after-width = c .before in
+    let after-out = after-width .before .before in (
+      rw (
+        c .count .ensures,
+        after-width .width .ensures,
+        after-out .before .fill-line .ensures,
+      )
+          (loopAt c .loop .inv .0
+          ∙ line-turn (start (loopAt c) .args .line) (start (loopAt c) .args .text .now) (loopAt c .loop .here) (loopAt c .loop .left) (more c)
+          (loopAt c .loop .inv .1) (loopAt c .loop .out) (loopAt c .loop .to) (loopAt c .loop .inv .2)),
+      rw (after-width .width .ensures)
+          (lead-next (start (loopAt c) .args .line) (loopAt c .loop .left) (start (loopAt c) .args .text .now) (loopAt c .loop .here)
+          (loopAt c .loop .inv .1) (more c)),
+      rw (c .count .ensures, after-out .out .given)
+          (rest-fits (start (loopAt c) .args .line) (start (loopAt c) .args .text .now) (loopAt c .loop .here) (loopAt c .loop .left) (more c)
+          (loopAt c .loop .inv .1) (loopAt c .loop .out) (loopAt c .loop .to) (loopAt c .loop .inv .2)),
+      after-out .out .given ∙ loopAt c .loop .inv .3,
+    )
 
 same-length : tie.Need-same-length Inv-loop μ-loop
 same-length c = c .before .loop .inv .3

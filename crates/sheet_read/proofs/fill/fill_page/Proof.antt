@@ -18,7 +18,11 @@ use Rattle.sheet_read.proofs.fill.fill_page.Statement.{statement}
 use Rattle.sheet_read.proofs.fill.fill_page.Tie as tie
 
 abbrev Inv-loop : tie.InvT-loop
-Inv-loop text from entry bytes₀ at base n₀ here₀ slot₀ bytes n here slot = (slotCount base slots (lines (drop from text)) ≡ n + slotCount (base + 8 * slot) (slots - slot) (lines (drop here text))) × (laid bytes₀ at (slotBytes base slots (lines (drop from text))) ≡ laid bytes (at + 8 * slot) (slotBytes (base + 8 * slot) (slots - slot) (lines (drop here text)))) × (here ≤ length text) × (n ≤ slot) × (slot ≤ slots) × (length bytes ≡ length bytes₀)
+Inv-loop text from entry bytes₀ at base n₀ here₀ slot₀ bytes n here slot =
+    (slotCount base slots (lines (drop from text)) ≡ n + slotCount (base + 8 * slot) (slots - slot) (lines (drop here text)))
+    × (laid bytes₀ at (slotBytes base slots (lines (drop from text)))
+    ≡ laid bytes (at + 8 * slot) (slotBytes (base + 8 * slot) (slots - slot) (lines (drop here text))))
+    × (here ≤ length text) × (n ≤ slot) × (slot ≤ slots) × (length bytes ≡ length bytes₀)
 
 abbrev μ-loop : tie.MeasureT-loop
 μ-loop text from entry bytes₀ at base n₀ here₀ slot₀ bytes n here slot = slots - slot
@@ -65,11 +69,16 @@ line-count-requires c κs = search needs
 abbrev loopAt : tie.After-line-count Inv-loop μ-loop → tie.At-loop Inv-loop μ-loop
 loopAt c = c .before .before .before .before .before .before .before
 
-value-is : (c : tie.After-line-count Inv-loop μ-loop) → c .before .before .before .before .before .slot-value .result ≡ slotValue (base (loopAt c) + 8 * loopAt c .loop .slot) (lines (drop (loopAt c .loop .here) (text (loopAt c))))
+value-is : (c : tie.After-line-count Inv-loop μ-loop) →
+    let after-slot-value = c .before .before .before .before .before in
+    after-slot-value .slot-value .result
+    ≡ slotValue (base (loopAt c) + 8 * loopAt c .loop .slot) (lines (drop (loopAt c .loop .here) (text (loopAt c))))
 value-is c = c .before .before .before .before .before .slot-value .ensures
 
 few : (c : tie.After-line-count Inv-loop μ-loop) → c .line-count .result ≤ 1
-few c = rw (c .line-count .ensures) (few-lines (c .before .before .before .before .before .slot-value .result))
+few c =
+    let after-slot-value = c .before .before .before .before .before in
+    rw (c .line-count .ensures) (few-lines (after-slot-value .slot-value .result))
 
 past : (c : tie.After-line-count Inv-loop μ-loop) → loopAt c .loop .here + 41 * c .line-count .result ≤ length (text (loopAt c))
 past c = slot-end (text (loopAt c)) (loopAt c .loop .here) (base (loopAt c)) (loopAt c .loop .slot) _ _ (value-is c) (c .line-count .ensures) (loopAt c .loop .inv .2)
@@ -90,20 +99,32 @@ loop-less : tie.Need-loop-less Inv-loop μ-loop
 loop-less c = omega arith
 
 loop-again : tie.Need-loop-again Inv-loop μ-loop
-loop-again c = (
-  counted-turn _ _ _ (loopAt c .loop .inv .0) (count-turn (text (loopAt c)) (loopAt c .loop .here) (base (loopAt c)) (loopAt c .loop .slot) _ _ (value-is c) (c .line-count .ensures) (c .before .before .before .before .before .before .loop-test .taken)),
-  rw (c .before .before .before .put-value .ensures) (loopAt c .loop .inv .1 ∙ slot-turn (text (loopAt c)) (loopAt c .loop .here) (base (loopAt c)) (loopAt c .loop .slot) _ _ (value-is c) (c .line-count .ensures) (c .before .before .before .before .before .before .loop-test .taken) (loopAt c .loop .bytes) (start (loopAt c) .args .at) (omega arith)),
-  past c,
-  omega (arith, few c),
-  omega arith,
-  c .before .before .bytes .given ∙ loopAt c .loop .inv .5,
-)
+loop-again c =
+    let after-bytes = c .before .before in
+    let in-loop = after-bytes .before .before .before .before in (
+      counted-turn _ _ _ (loopAt c .loop .inv .0)
+          (count-turn (text (loopAt c)) (loopAt c .loop .here) (base (loopAt c)) (loopAt c .loop .slot) _ _ (value-is c) (c .line-count .ensures)
+          (in-loop .loop-test .taken)),
+      rw (after-bytes .before .put-value .ensures)
+          (loopAt c .loop .inv .1
+          ∙ slot-turn (text (loopAt c)) (loopAt c .loop .here) (base (loopAt c)) (loopAt c .loop .slot) _ _ (value-is c) (c .line-count .ensures)
+          (in-loop .loop-test .taken) (loopAt c .loop .bytes) (start (loopAt c) .args .at) (omega arith)),
+      past c,
+      omega (arith, few c),
+      omega arith,
+      after-bytes .bytes .given ∙ loopAt c .loop .inv .5,
+    )
 
 same-length : tie.Need-same-length Inv-loop μ-loop
 same-length c = c .before .loop .inv .5
 
 returns : tie.Need-returns Inv-loop μ-loop
-returns c = rw (← c .before .before .page-of .ensures) ((counted-end _ (c .before .loop .inv .0) (count-none _ (c .before .loop .slot) _ (c .loop-test .left)), sym (c .before .loop .inv .1 ∙ slot-finish _ _ _ (c .before .loop .slot) _ (c .loop-test .left))))
+returns c =
+    rw (← c .before .before .page-of .ensures)
+    ((
+      counted-end _ (c .before .loop .inv .0) (count-none _ (c .before .loop .slot) _ (c .loop-test .left)),
+      sym (c .before .loop .inv .1 ∙ slot-finish _ _ _ (c .before .loop .slot) _ (c .loop-test .left)),
+    ))
 
 pub fill-page-spec : {M : Type 1} → statement M
 fill-page-spec =

@@ -19,14 +19,22 @@ use Rattle.sheet_read.proofs.fill.fill_pages.Statement.{statement}
 use Rattle.sheet_read.proofs.fill.fill_pages.Tie as tie
 
 abbrev Inv-loop : tie.InvT-loop
-Inv-loop text pages bytes₀ here₀ page₀ to₀ left₀ bytes here page to left = (laid bytes₀ 0 (bytesOf (pagesIn (entriesIn pages (drop bodyAt text)) (lines (drop (wordsAt pages) text)))) ≡ laid bytes to (bytesOf (pagesIn (entriesIn left (drop page text)) (lines (drop here text))))) × Lead Page left (lines (drop page text)) × (here ≤ length text) × (page + 23 * left ≤ length text) × (to + pageBytes * left ≤ length bytes) × (length bytes ≡ length bytes₀)
+Inv-loop text pages bytes₀ here₀ page₀ to₀ left₀ bytes here page to left =
+    (laid bytes₀ 0 (bytesOf (pagesIn (entriesIn pages (drop bodyAt text)) (lines (drop (wordsAt pages) text))))
+    ≡ laid bytes to (bytesOf (pagesIn (entriesIn left (drop page text)) (lines (drop here text)))))
+    × Lead Page left (lines (drop page text)) × (here ≤ length text) × (page + 23 * left ≤ length text) × (to + pageBytes * left ≤ length bytes)
+    × (length bytes ≡ length bytes₀)
 
 abbrev μ-loop : tie.MeasureT-loop
 μ-loop text pages bytes₀ here₀ page₀ to₀ left₀ bytes here page to left = left
 
 -- all page lines lie within the text
-room : (c : tie.After-slice-known Inv-loop μ-loop) → wordsAt (c .before .before .args .pages) ≤ length (c .before .before .args .text .now)
-room c = lead-end Page (c .before .before .args .pages) (c .before .before .args .text .now) bodyAt (c .before .before .pre .1) (c .before .before .pre .0)
+room : (c : tie.After-slice-known Inv-loop μ-loop) →
+    let args = c .before .before .args in
+    wordsAt (args .pages) ≤ length (args .text .now)
+room c =
+    let start = c .before .before in
+    lead-end Page (start .args .pages) (start .args .text .now) bodyAt (start .pre .1) (start .pre .0)
 
 mul-here : tie.Need-mul-here Inv-loop μ-loop
 mul-here c = omega (arith, room c)
@@ -35,7 +43,9 @@ add-here : tie.Need-add-here Inv-loop μ-loop
 add-here c = omega (arith, room c)
 
 loop-holds : tie.Need-loop-holds Inv-loop μ-loop
-loop-holds c = (refl, c .before .before .pre .1, room c, room c, omega (arith, c .before .before .pre .2), refl)
+loop-holds c =
+    let start = c .before .before in
+    (refl, start .pre .1, room c, room c, omega (arith, start .pre .2), refl)
 
 add-number : tie.Need-add-number Inv-loop μ-loop
 add-number c = omega arith
@@ -56,7 +66,10 @@ more : (c : tie.After-slice-known2 Inv-loop μ-loop) → 0 < loopAt c .loop .lef
 more c = c .before .before .before .before .before .loop-test .taken
 
 past : (c : tie.After-slice-known2 Inv-loop μ-loop) → loopAt c .loop .here + 41 * c .before .before .fill-page .result ≤ length (text (loopAt c))
-past c = page-end (text (loopAt c)) (loopAt c .loop .here) (c .before .before .before .before .number .result) _ (c .before .before .fill-page .ensures .0) (loopAt c .loop .inv .2)
+past c =
+    let after-fill-page = c .before .before in
+    page-end (text (loopAt c)) (loopAt c .loop .here) (after-fill-page .before .before .number .result) _ (after-fill-page .fill-page .ensures .0)
+    (loopAt c .loop .inv .2)
 
 mul-here-2 : tie.Need-mul-here-2 Inv-loop μ-loop
 mul-here-2 c = omega (arith, past c)
@@ -77,14 +90,20 @@ loop-less : tie.Need-loop-less Inv-loop μ-loop
 loop-less c = omega arith
 
 loop-again : tie.Need-loop-again Inv-loop μ-loop
-loop-again c = (
-  rw (c .before .before .fill-page .ensures .1) (loopAt c .loop .inv .0 ∙ page-laid (text (loopAt c)) (loopAt c .loop .left) (loopAt c .loop .page) (loopAt c .loop .here) _ _ (more c) (loopAt c .loop .inv .1) (c .before .before .before .before .number .ensures) (c .before .before .fill-page .ensures .0) (loopAt c .loop .bytes) (loopAt c .loop .to) (omega arith)),
-  lead-next Page (loopAt c .loop .left) (text (loopAt c)) (loopAt c .loop .page) (loopAt c .loop .inv .1) (more c),
-  past c,
-  omega arith,
-  rw (c .before .bytes .given) (omega arith),
-  c .before .bytes .given ∙ loopAt c .loop .inv .5,
-)
+loop-again c =
+    let after-bytes = c .before in
+    let after-fill-page = after-bytes .before in (
+      rw (after-fill-page .fill-page .ensures .1)
+          (loopAt c .loop .inv .0
+          ∙ page-laid (text (loopAt c)) (loopAt c .loop .left) (loopAt c .loop .page) (loopAt c .loop .here) _ _ (more c) (loopAt c .loop .inv .1)
+          (after-fill-page .before .before .number .ensures) (after-fill-page .fill-page .ensures .0) (loopAt c .loop .bytes)
+          (loopAt c .loop .to) (omega arith)),
+      lead-next Page (loopAt c .loop .left) (text (loopAt c)) (loopAt c .loop .page) (loopAt c .loop .inv .1) (more c),
+      past c,
+      omega arith,
+      rw (after-bytes .bytes .given) (omega arith),
+      after-bytes .bytes .given ∙ loopAt c .loop .inv .5,
+    )
 
 same-length : tie.Need-same-length Inv-loop μ-loop
 same-length c = c .before .loop .inv .5

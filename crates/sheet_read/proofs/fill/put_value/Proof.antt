@@ -38,7 +38,12 @@ loop-less : tie.Need-loop-less Inv-loop μ-loop
 loop-less c = omega arith
 
 loop-again : tie.Need-loop-again Inv-loop μ-loop
-loop-again c = (c .before .loop .inv .0 ∙ byte-turn (c .before .loop .bytes) (c .before .before .args .at) (c .before .loop .i) (c .before .loop .v) (c .loop-test .taken) (room c), rw length-set (c .before .loop .inv .1))
+loop-again c =
+    let at-loop = c .before in (
+      at-loop .loop .inv .0
+          ∙ byte-turn (at-loop .loop .bytes) (at-loop .before .args .at) (at-loop .loop .i) (at-loop .loop .v) (c .loop-test .taken) (room c),
+      rw length-set (at-loop .loop .inv .1),
+    )
 
 same-length : tie.Need-same-length Inv-loop μ-loop
 same-length c = c .before .loop .inv .1

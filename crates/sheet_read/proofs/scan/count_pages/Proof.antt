@@ -31,11 +31,17 @@ abbrev text : tie.At-loop Inv-loop μ-loop → List ℕ
 text c = c .before .before .args .text .now
 
 -- a page line stands here
-begun : (c : tie.Then1 Inv-loop μ-loop) → begins (form Page) (drop (c .before .before .loop .at) (text (c .before .before))) ≡ true
+begun : (c : tie.Then1 Inv-loop μ-loop) →
+    let at-loop = c .before .before in
+    begins (form Page) (drop (at-loop .loop .at) (text at-loop)) ≡ true
 begun c = sym (c .before .stands .ensures) ∙ c .if1 .taken
 
-past : (c : tie.Then1 Inv-loop μ-loop) → c .before .before .loop .at + 23 ≤ length (text (c .before .before))
-past c = line-past Page (text (c .before .before)) (c .before .before .loop .at) (begun c)
+past : (c : tie.Then1 Inv-loop μ-loop) →
+    let at-loop = c .before .before in
+    at-loop .loop .at + 23 ≤ length (text at-loop)
+past c =
+    let at-loop = c .before .before in
+    line-past Page (text at-loop) (at-loop .loop .at) (begun c)
 
 add-number : tie.Need-add-number Inv-loop μ-loop
 add-number c = omega (arith, past c)
@@ -47,7 +53,10 @@ div-frame : tie.Need-div-frame Inv-loop μ-loop
 div-frame c = search needs
 
 returns : tie.Need-returns Inv-loop μ-loop
-returns c = counted-end _ (c .before .before .before .before .loop .inv .0) (page-low (text (c .before .before .before .before)) (c .before .before .before .before .loop .at) _ _ (begun (c .before .before)) (c .before .number .ensures) (c .if2 .taken))
+returns c =
+    let then1 = c .before .before in
+    let at-loop = then1 .before .before in
+    counted-end _ (at-loop .loop .inv .0) (page-low (text at-loop) (at-loop .loop .at) _ _ (begun then1) (c .before .number .ensures) (c .if2 .taken))
 
 add-least : tie.Need-add-least Inv-loop μ-loop
 add-least c = search needs
@@ -62,10 +71,18 @@ loop-less : tie.Need-loop-less Inv-loop μ-loop
 loop-less c = omega (arith, past (c .before .before))
 
 loop-again : tie.Need-loop-again Inv-loop μ-loop
-loop-again c = (counted-turn _ _ _ (c .before .before .before .before .loop .inv .0) (page-turn (text (c .before .before .before .before)) (c .before .before .before .before .loop .at) _ _ (begun (c .before .before)) (c .before .number .ensures) (c .if2 .left)), omega arith)
+loop-again c =
+    let then1 = c .before .before in
+    let at-loop = then1 .before .before in (
+      counted-turn _ _ _ (at-loop .loop .inv .0)
+          (page-turn (text at-loop) (at-loop .loop .at) _ _ (begun then1) (c .before .number .ensures) (c .if2 .left)),
+      omega arith,
+    )
 
 returns-2 : tie.Need-returns-2 Inv-loop μ-loop
-returns-2 c = counted-end _ (c .before .before .loop .inv .0) (page-end (text (c .before .before)) (c .before .before .loop .at) _ (sym (c .before .stands .ensures) ∙ c .if1 .left))
+returns-2 c =
+    let at-loop = c .before .before in
+    counted-end _ (at-loop .loop .inv .0) (page-end (text at-loop) (at-loop .loop .at) _ (sym (c .before .stands .ensures) ∙ c .if1 .left))
 
 pub count-pages-spec : {M : Type 1} → statement M
 count-pages-spec =

@@ -30,11 +30,17 @@ stands-requires : tie.Need-stands-requires Inv-loop μ-loop
 stands-requires c κs = search needs
 
 -- an instruction's line stands here
-begun : (c : tie.Then1 Inv-loop μ-loop) → begins (form Do) (drop (c .before .before .loop .here) (text (c .before .before))) ≡ true
+begun : (c : tie.Then1 Inv-loop μ-loop) →
+    let at-loop = c .before .before in
+    begins (form Do) (drop (at-loop .loop .here) (text at-loop)) ≡ true
 begun c = sym (c .before .stands .ensures) ∙ c .if1 .taken
 
-past : (c : tie.Then1 Inv-loop μ-loop) → c .before .before .loop .here + 75 ≤ length (text (c .before .before))
-past c = line-past Do (text (c .before .before)) (c .before .before .loop .here) (begun c)
+past : (c : tie.Then1 Inv-loop μ-loop) →
+    let at-loop = c .before .before in
+    at-loop .loop .here + 75 ≤ length (text at-loop)
+past c =
+    let at-loop = c .before .before in
+    line-past Do (text at-loop) (at-loop .loop .here) (begun c)
 
 add-n : tie.Need-add-n Inv-loop μ-loop
 add-n c = omega (arith, past c)
@@ -46,10 +52,14 @@ loop-less : tie.Need-loop-less Inv-loop μ-loop
 loop-less c = omega (arith, past c)
 
 loop-again : tie.Need-loop-again Inv-loop μ-loop
-loop-again c = (counted-turn _ _ _ (c .before .before .loop .inv .0) (do-turn (text (c .before .before)) (c .before .before .loop .here) (begun c)), omega arith)
+loop-again c =
+    let at-loop = c .before .before in
+    (counted-turn _ _ _ (at-loop .loop .inv .0) (do-turn (text at-loop) (at-loop .loop .here) (begun c)), omega arith)
 
 returns : tie.Need-returns Inv-loop μ-loop
-returns c = counted-end _ (c .before .before .loop .inv .0) (do-end (text (c .before .before)) (c .before .before .loop .here) (sym (c .before .stands .ensures) ∙ c .if1 .left))
+returns c =
+    let at-loop = c .before .before in
+    counted-end _ (at-loop .loop .inv .0) (do-end (text at-loop) (at-loop .loop .here) (sym (c .before .stands .ensures) ∙ c .if1 .left))
 
 pub count-steps-spec : {M : Type 1} → statement M
 count-steps-spec =

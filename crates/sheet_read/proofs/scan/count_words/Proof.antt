@@ -16,7 +16,10 @@ use Rattle.sheet_read.proofs.scan.count_words.Statement.{statement}
 use Rattle.sheet_read.proofs.scan.count_words.Tie as tie
 
 abbrev Inv-loop : tie.InvT-loop
-Inv-loop text pages n₀ here₀ page₀ left₀ n here page left = (wordCount (entriesIn pages (drop bodyAt text)) (lines (drop (wordsAt pages) text)) ≡ n + wordCount (entriesIn left (drop page text)) (lines (drop here text))) × Lead Page left (lines (drop page text)) × (41 * n ≤ here) × (here ≤ length text) × (page + 23 * left ≤ length text)
+Inv-loop text pages n₀ here₀ page₀ left₀ n here page left =
+    (wordCount (entriesIn pages (drop bodyAt text)) (lines (drop (wordsAt pages) text))
+    ≡ n + wordCount (entriesIn left (drop page text)) (lines (drop here text)))
+    × Lead Page left (lines (drop page text)) × (41 * n ≤ here) × (here ≤ length text) × (page + 23 * left ≤ length text)
 
 abbrev μ-loop : tie.MeasureT-loop
 μ-loop text pages n₀ here₀ page₀ left₀ n here page left = left
@@ -71,13 +74,16 @@ loop-less : tie.Need-loop-less Inv-loop μ-loop
 loop-less c = omega arith
 
 loop-again : tie.Need-loop-again Inv-loop μ-loop
-loop-again c = (
-  counted-turn _ _ _ (loopAt c .loop .inv .0) (words-next (text (loopAt c)) (loopAt c .loop .left) (loopAt c .loop .page) (loopAt c .loop .here) _ _ (c .before .before .loop-test .taken) (loopAt c .loop .inv .1) (c .before .number .ensures) (c .words-of-page .ensures)),
-  lead-next Page (loopAt c .loop .left) (text (loopAt c)) (loopAt c .loop .page) (loopAt c .loop .inv .1) (c .before .before .loop-test .taken),
-  omega (arith, past c),
-  past c,
-  omega arith,
-)
+loop-again c =
+    let in-loop = c .before .before in (
+      counted-turn _ _ _ (loopAt c .loop .inv .0)
+          (words-next (text (loopAt c)) (loopAt c .loop .left) (loopAt c .loop .page) (loopAt c .loop .here) _ _ (in-loop .loop-test .taken)
+          (loopAt c .loop .inv .1) (c .before .number .ensures) (c .words-of-page .ensures)),
+      lead-next Page (loopAt c .loop .left) (text (loopAt c)) (loopAt c .loop .page) (loopAt c .loop .inv .1) (in-loop .loop-test .taken),
+      omega (arith, past c),
+      past c,
+      omega arith,
+    )
 
 returns : tie.Need-returns Inv-loop μ-loop
 returns c = counted-end _ (c .before .loop .inv .0) (words-none (c .before .loop .left) _ _ (c .loop-test .left))

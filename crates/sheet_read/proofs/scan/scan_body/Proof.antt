@@ -36,8 +36,13 @@ add-at-2 c = omega (arith, room c)
 count-steps-requires : tie.Need-count-steps-requires
 count-steps-requires c κs = search needs
 
-room-all : (c : tie.After-count-steps) → stepsAt (c .before .before .count-pages .result) (c .before .count-words .result) + 75 * c .count-steps .result ≤ length (text (c .before))
-room-all c = end-in (text (c .before)) (c .before .before .before .before .pre) _ _ (c .before .before .count-pages .ensures) (c .before .count-words .ensures) _ (c .count-steps .ensures)
+room-all : (c : tie.After-count-steps) →
+    stepsAt (c .before .before .count-pages .result) (c .before .count-words .result) + 75 * c .count-steps .result ≤ length (text (c .before))
+room-all c =
+    let after-count-words = c .before in
+    let after-count-pages = after-count-words .before in
+    end-in (text after-count-words) (after-count-pages .before .before .pre) _ _ (after-count-pages .count-pages .ensures)
+    (after-count-words .count-words .ensures) _ (c .count-steps .ensures)
 
 mul-if1 : tie.Need-mul-if1
 mul-if1 c = omega (arith, room-all c)
@@ -55,10 +60,18 @@ add-t12 : tie.Need-add-t12
 add-t12 c = omega (arith, room-all (c .before))
 
 returns : tie.Need-returns
-returns c = left-over (text (c .before .before)) (c .before .before .before .before .before .pre) _ _ (c .before .before .before .count-pages .ensures) (c .before .before .count-words .ensures) _ (c .before .count-steps .ensures) (c .if1 .taken)
+returns c =
+    let after-count-words = c .before .before in
+    let after-count-pages = after-count-words .before in
+    left-over (text after-count-words) (after-count-pages .before .before .pre) _ _ (after-count-pages .count-pages .ensures)
+    (after-count-words .count-words .ensures) _ (c .before .count-steps .ensures) (c .if1 .taken)
 
 returns-2 : tie.Need-returns-2
-returns-2 c = whole-sheet (text (c .before .before)) (c .before .before .before .before .before .pre) _ _ (c .before .before .before .count-pages .ensures) (c .before .before .count-words .ensures) _ (c .before .count-steps .ensures) (c .if1 .left)
+returns-2 c =
+    let after-count-words = c .before .before in
+    let after-count-pages = after-count-words .before in
+    whole-sheet (text after-count-words) (after-count-pages .before .before .pre) _ _ (after-count-pages .count-pages .ensures)
+    (after-count-words .count-words .ensures) _ (c .before .count-steps .ensures) (c .if1 .left)
 
 pub scan-body-spec : {M : Type 1} → statement M
 scan-body-spec =

@@ -38,10 +38,16 @@ stands-requires-2 : tie.Need-stands-requires-2
 stands-requires-2 c κs = search needs
 
 returns-3 : tie.Need-returns-3
-returns-3 c = no-state (text (c .before .before .before .before .before)) (good (c .before .before)) (sym (c .before .stands2 .ensures) ∙ not-true _ (c .if3 .taken))
+returns-3 c =
+    let else2 = c .before .before in
+    let after-stands = else2 .before .before .before in
+    no-state (text after-stands) (good else2) (sym (c .before .stands2 .ensures) ∙ not-true _ (c .if3 .taken))
 
 scan-body-requires : tie.Need-scan-body-requires
-scan-body-requires c κs = headed (text (c .before .before .before .before .before)) (good (c .before .before)) (sym (c .before .stands2 .ensures) ∙ not-false _ (c .if3 .left))
+scan-body-requires c κs =
+    let else2 = c .before .before in
+    let after-stands = else2 .before .before .before in
+    headed (text after-stands) (good else2) (sym (c .before .stands2 .ensures) ∙ not-false _ (c .if3 .left))
 
 returns-4 : tie.Need-returns-4
 returns-4 c = search needs

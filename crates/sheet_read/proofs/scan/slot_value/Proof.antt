@@ -40,7 +40,9 @@ number-requires : tie.Need-number-requires
 number-requires c κs = search needs
 
 returns-2 : tie.Need-returns-2
-returns-2 c = sym (slot-there (text (c .before .before .before)) (at (c .before .before .before)) _ (begun (c .before .before)) (λ e. c .if2 .taken (c .before .number .ensures ∙ e)))
+returns-2 c =
+    let else1 = c .before .before in
+    sym (slot-there (text (else1 .before)) (at (else1 .before)) _ (begun else1) (λ e. c .if2 .taken (c .before .number .ensures ∙ e)))
 
 add-number-2 : tie.Need-add-number-2
 add-number-2 c = omega (arith, past (c .before .before))
@@ -49,7 +51,12 @@ number-requires-2 : tie.Need-number-requires-2
 number-requires-2 c κs = search needs
 
 returns-3 : tie.Need-returns-3
-returns-3 c = c .number2 .ensures ∙ sym (slot-here (text (c .before .before .before .before)) (at (c .before .before .before .before)) _ (begun (c .before .before .before)) (sym (c .before .before .number .ensures) ∙ c .before .if2 .left))
+returns-3 c =
+    let after-number = c .before .before in
+    let after-stands = after-number .before .before in
+    c .number2 .ensures
+    ∙ sym (slot-here (text after-stands) (at after-stands) _ (begun (after-number .before))
+    (sym (after-number .number .ensures) ∙ c .before .if2 .left))
 
 pub slot-value-spec : {M : Type 1} → statement M
 slot-value-spec =

@@ -14,7 +14,9 @@ use Rattle.sheet_read.proofs.scan.words_of_page.Statement.{statement}
 use Rattle.sheet_read.proofs.scan.words_of_page.Tie as tie
 
 abbrev Inv-loop : tie.InvT-loop
-Inv-loop text at entry base n₀ here₀ slot₀ n here slot = (slotCount base slots (lines (drop at text)) ≡ n + slotCount (base + 8 * slot) (slots - slot) (lines (drop here text))) × (here ≤ length text) × (n ≤ slot) × (slot ≤ slots)
+Inv-loop text at entry base n₀ here₀ slot₀ n here slot =
+    (slotCount base slots (lines (drop at text)) ≡ n + slotCount (base + 8 * slot) (slots - slot) (lines (drop here text))) × (here ≤ length text)
+    × (n ≤ slot) × (slot ≤ slots)
 
 abbrev μ-loop : tie.MeasureT-loop
 μ-loop text at entry base n₀ here₀ slot₀ n here slot = slots - slot
@@ -36,8 +38,9 @@ mul-slot-value c = omega arith
 
 add-slot-value : tie.Need-add-slot-value Inv-loop μ-loop
 add-slot-value c =
-    let base-is = c .before .before .page-of .ensures in
-    let end = page-end _ (c .before .before .before .before .fits .entry .fits) in
+    let after-page-of = c .before .before in
+    let base-is = after-page-of .page-of .ensures in
+    let end = page-end _ (after-page-of .before .before .fits .entry .fits) in
     omega arith
 
 slot-value-requires : tie.Need-slot-value-requires Inv-loop μ-loop
@@ -53,7 +56,9 @@ few : (c : tie.After-line-count Inv-loop μ-loop) → c .line-count .result ≤ 
 few c = rw (c .line-count .ensures) (few-lines (c .before .slot-value .result))
 
 past : (c : tie.After-line-count Inv-loop μ-loop) → loopAt c .loop .here + 41 * c .line-count .result ≤ length (text (loopAt c))
-past c = slot-end (text (loopAt c)) (loopAt c .loop .here) (base (loopAt c)) (loopAt c .loop .slot) _ _ (c .before .slot-value .ensures) (c .line-count .ensures) (loopAt c .loop .inv .1)
+past c =
+    slot-end (text (loopAt c)) (loopAt c .loop .here) (base (loopAt c)) (loopAt c .loop .slot) _ _ (c .before .slot-value .ensures)
+    (c .line-count .ensures) (loopAt c .loop .inv .1)
 
 add-n : tie.Need-add-n Inv-loop μ-loop
 add-n c = omega (arith, few c)
@@ -71,10 +76,18 @@ loop-less : tie.Need-loop-less Inv-loop μ-loop
 loop-less c = omega arith
 
 loop-again : tie.Need-loop-again Inv-loop μ-loop
-loop-again c = (counted-turn _ _ _ (loopAt c .loop .inv .0) (count-turn (text (loopAt c)) (loopAt c .loop .here) (base (loopAt c)) (loopAt c .loop .slot) _ _ (c .before .slot-value .ensures) (c .line-count .ensures) (c .before .before .loop-test .taken)), past c, omega (arith, few c), omega arith)
+loop-again c = (
+  counted-turn _ _ _ (loopAt c .loop .inv .0)
+      (count-turn (text (loopAt c)) (loopAt c .loop .here) (base (loopAt c)) (loopAt c .loop .slot) _ _ (c .before .slot-value .ensures)
+      (c .line-count .ensures) (c .before .before .loop-test .taken)),
+  past c,
+  omega (arith, few c),
+  omega arith,
+)
 
 returns : tie.Need-returns Inv-loop μ-loop
-returns c = rw (← c .before .before .page-of .ensures) (counted-end _ (c .before .loop .inv .0) (count-none _ (c .before .loop .slot) _ (c .loop-test .left)))
+returns c =
+    rw (← c .before .before .page-of .ensures) (counted-end _ (c .before .loop .inv .0) (count-none _ (c .before .loop .slot) _ (c .loop-test .left)))
 
 pub words-of-page-spec : {M : Type 1} → statement M
 words-of-page-spec =

@@ -15,6 +15,10 @@ use borrow.Author.Needs.{needs}
 use Rattle.sheet_write.proofs.text.print.Statement.{statement}
 use Rattle.sheet_write.proofs.text.print.Tie as tie
 
+-- Of a place, the places on the way to it, called as `tie` calls them.
+abbrev way-text-length : tie.After-text-length → record { start : tie.Start }
+way-text-length c = record { start = c .before .before .before .before .before .before .before }
+
 tested : (c : tie.Start) → Passes (c .args .pages .now) (length (c .args .bytes .now)) (goodState (c .args .state .now)) (length (c .args .words .now))
 tested c = passes _ _ _ _ (c .pre)
 
@@ -22,13 +26,14 @@ abbrev whole : tie.Start → List ℕ
 whole c = text (savedOf (c .args .state .now) (c .args .pages .now) (c .args .bytes .now) (c .args .words .now))
 
 -- the count is the text's length
-long : (c : tie.After-text-length) → c .text-length .result ≡ length (whole (c .before .before .before .before .before .before .before))
+long : (c : tie.After-text-length) → c .text-length .result ≡ length (whole (way-text-length c .start))
 long c =
-    let args = c .before .before .before .before .before .before .before .args in
-    let ready = tested (c .before .before .before .before .before .before .before) in
+    let start = way-text-length c .start in
+    let ready = tested start in
     c .text-length .ensures
-    ∙ ap (λ (values : ℕ). textLength (length (args .pages .now)) values (length (args .words .now) / 4)) (c .before .nonzero .ensures)
-    ∙ sym (text-size (args .state .now) (args .pages .now) (args .bytes .now) (args .words .now) (ten-fields _ (ready .state)) (ready .list .whole))
+    ∙ ap (λ (values : ℕ). textLength (length (start .args .pages .now)) values (length (start .args .words .now) / 4)) (c .before .nonzero .ensures)
+    ∙ sym (text-size (start .args .state .now) (start .args .pages .now) (start .args .bytes .now) (start .args .words .now)
+    (ten-fields _ (ready .state)) (ready .list .whole))
 
 nonzero-requires : tie.Need-nonzero-requires
 nonzero-requires c κs = search needs
@@ -48,9 +53,9 @@ returns c = too-long _ _ _ (long (c .before)) (c .if1 .taken)
 
 lay-requires : tie.Need-lay-requires
 lay-requires c κs =
-    let start = c .before .before .before .before .before .before .before .before .before in
-    let ready = tested start in
-    let long-is = long (c .before .before) in
+    let after-text-length = c .before .before in
+    let ready = tested (way-text-length after-text-length .start) in
+    let long-is = long after-text-length in
     let fits = c .before .if1 .left in
     ((ten-fields _ (ready .state), lent _ _ (ready .list)), omega arith)
 
@@ -58,7 +63,10 @@ same-length : tie.Need-same-length
 same-length c = search needs
 
 returns-2 : tie.Need-returns-2
-returns-2 c = done _ _ _ (long (c .before .before .before .before .before)) _ (c .before .before .before .before .if1 .left) (c .before .before .lay .ensures)
+returns-2 c =
+    let after-lay = c .before .before in
+    let else1 = after-lay .before .before in
+    done _ _ _ (long (else1 .before)) _ (else1 .if1 .left) (after-lay .lay .ensures)
 
 pub print-spec : {M : Type 1} → statement M
 print-spec =

@@ -9,10 +9,11 @@ use Rattle.sheet_write.proofs.text.write.Statement.{statement}
 use Rattle.sheet_write.proofs.text.write.Tie as tie
 
 -- what the tests found
-tested : (c : tie.After-check)
-    → c .check .result
-    ≡ checkBy (c .before .before .before .before .before .before .before .args .pages .now) (length (c .before .before .before .before .before .before .before .args .bytes .now))
-    (goodState (c .before .before .before .before .before .before .before .args .state .now)) (length (c .before .before .before .before .before .before .before .args .words .now))
+tested : (c : tie.After-check) →
+    let args = c .before .before .before .before .before .before .before .args in
+    c .check .result
+    ≡ checkBy (args .pages .now) (length (args .bytes .now))
+    (goodState (args .state .now)) (length (args .words .now))
 tested c = rw (← c .before .good-state .ensures) (c .check .ensures)
 
 good-state-requires : tie.Need-good-state-requires
@@ -37,7 +38,11 @@ same-length : tie.Need-same-length
 same-length c = search needs
 
 returns-2 : tie.Need-returns-2
-returns-2 c = c .before .before .print .ensures ∙ passed _ _ _ _ _ (sym (tested (c .before .before .before .before .before .before)) ∙ c .before .before .before .before .enum-told .given .1)
+returns-2 c =
+    let after-print = c .before .before in
+    let after-enum-told = after-print .before .before in
+    let after-check = after-enum-told .before .before in
+    after-print .print .ensures ∙ passed _ _ _ _ _ (sym (tested after-check) ∙ after-enum-told .enum-told .given .1)
 
 pub write-spec : {M : Type 1} → statement M
 write-spec =

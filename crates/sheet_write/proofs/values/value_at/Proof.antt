@@ -35,13 +35,21 @@ wide-requires : tie.Need-wide-requires Inv-loop μ-loop
 wide-requires c κs = search needs
 
 add-value : tie.Need-add-value Inv-loop μ-loop
-add-value c = omega (arith, small (c .before .before), c .before .shared-slice-known2 .given (c .before .before .before .before .before .args .at + (c .before .before .before .loop .left - 1)))
+add-value c =
+    let in-loop = c .before .before in
+    let at-loop-place = in-loop .before in
+    omega (arith, small in-loop, c .before .shared-slice-known2 .given (at-loop-place .before .before .args .at + (at-loop-place .loop .left - 1)))
 
 loop-less : tie.Need-loop-less Inv-loop μ-loop
 loop-less c = omega arith
 
 loop-again : tie.Need-loop-again Inv-loop μ-loop
-loop-again c = built-more _ _ 8 _ _ _ (c .before .before .loop-test .taken) (c .before .before .before .loop .inv) (omega (arith, c .before .shared-slice-known2 .given (c .before .before .before .before .before .args .at + (c .before .before .before .loop .left - 1)))) (c .wide .ensures)
+loop-again c =
+    let in-loop = c .before .before in
+    let at-loop-place = in-loop .before in
+    built-more _ _ 8 _ _ _ (in-loop .loop-test .taken) (at-loop-place .loop .inv)
+    (omega (arith, c .before .shared-slice-known2 .given (at-loop-place .before .before .args .at + (at-loop-place .loop .left - 1))))
+    (c .wide .ensures)
 
 returns : tie.Need-returns Inv-loop μ-loop
 returns c = built-all _ _ 8 _ _ (c .loop-test .left) (c .before .loop .inv)

@@ -18,7 +18,11 @@ length-fits-requires c κs = search needs
 
 returns-2 : tie.Need-returns-2
 unfolding fits
-returns-2 c = rw (sym (c .before .before .before .words-fit .ensures) ∙ not-false _ (c .before .before .if1 .left), sym (c .before .length-fits .ensures) ∙ not-true _ (c .if2 .taken))
+returns-2 c =
+    rw (
+      sym (c .before .before .before .words-fit .ensures) ∙ not-false _ (c .before .before .if1 .left),
+      sym (c .before .length-fits .ensures) ∙ not-true _ (c .if2 .taken),
+    )
 
 mode-fits-requires : tie.Need-mode-fits-requires
 mode-fits-requires c κs = search needs
@@ -26,7 +30,11 @@ mode-fits-requires c κs = search needs
 returns-3 : tie.Need-returns-3
 unfolding fits
 returns-3 c =
-    rw (sym (c .before .before .before .before .words-fit .ensures) ∙ not-false _ (c .before .before .before .if1 .left), sym (c .before .before .length-fits .ensures) ∙ not-false _ (c .before .if2 .left))
+    let after-length-fits = c .before .before in
+    rw (
+      sym (after-length-fits .before .before .words-fit .ensures) ∙ not-false _ (after-length-fits .before .if1 .left),
+      sym (after-length-fits .length-fits .ensures) ∙ not-false _ (c .before .if2 .left),
+    )
     (c .mode-fits .ensures)
 
 pub fits-spec : {M : Type 1} → statement M

@@ -15,7 +15,9 @@ returns c = rw (sym (c .before .in-mode-1 .ensures) ∙ not-true _ (c .if1 .take
 
 returns-2 : tie.Need-returns-2
 unfolding narrow
-returns-2 c = rw (sym (c .before .before .before .before .in-mode-1 .ensures) ∙ not-false _ (c .before .before .before .if1 .left), lt-ltb _ _ (c .before .if2 .taken))
+returns-2 c =
+    let else1 = c .before .before .before in
+    rw (sym (else1 .before .in-mode-1 .ensures) ∙ not-false _ (else1 .if1 .left), lt-ltb _ _ (c .before .if2 .taken))
 
 returns-3 : tie.Need-returns-3
 unfolding narrow

@@ -24,18 +24,31 @@ bytes-requires : tie.Need-bytes-requires
 bytes-requires c κs = search needs
 
 number-requires : tie.Need-number-requires
-number-requires c κs = rw (c .bytes .ensures) (at-most-eight (c .before .before .before .before .before .before .args .self .size))
+number-requires c κs =
+    let args = c .before .before .before .before .before .before .args in
+    rw (c .bytes .ensures) (at-most-eight (args .self .size))
 
 enum-known-failure : tie.Need-enum-known-failure
 enum-known-failure c = search needs
 
 returns : tie.Need-returns
 unfolding lookupOf
-returns c = rw (load-placed _ _ _ _ (told _ _ _ (sym (c .before .before .place .given .1) ∙ c .before .before .before .before .locate .ensures)) _, c .load-within .ensures)
+returns c =
+    let after-place = c .before .before in
+    rw (
+      load-placed _ _ _ _ (told _ _ _ (sym (after-place .place .given .1) ∙ after-place .before .before .locate .ensures)) _,
+      c .load-within .ensures,
+    )
 
 returns-2 : tie.Need-returns-2
 unfolding lookupOf load value
-returns-2 c = rw (told _ _ _ (sym (c .before .before .enum-told .given .1) ∙ c .before .before .before .before .locate .ensures), c .number .ensures, c .before .bytes .ensures)
+returns-2 c =
+    let after-enum-told = c .before .before in
+    rw (
+      told _ _ _ (sym (after-enum-told .enum-told .given .1) ∙ after-enum-told .before .before .locate .ensures),
+      c .number .ensures,
+      c .before .bytes .ensures,
+    )
 
 returns-3 : tie.Need-returns-3
 unfolding lookupOf

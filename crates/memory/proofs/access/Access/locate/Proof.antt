@@ -31,9 +31,11 @@ locate-first-requires c κs = search needs
 returns : tie.Need-returns
 unfolding lookupOf
 returns c =
-    let args = c .before .before .before .before .before .before .before .args in
-    let one = tested (c .before .before) ∙ c .before .if1 .taken in
-    c .locate-first .ensures ∙ first-located _ (args .self) one (λ i h. first-byte-decides (args .pages .now) (length (args .bytes .now)) (args .self) one i h .1)
+    let after-one-page = c .before .before in
+    let args = after-one-page .before .before .before .before .before .args in
+    let one = tested after-one-page ∙ c .before .if1 .taken in
+    c .locate-first .ensures
+    ∙ first-located _ (args .self) one (λ i h. first-byte-decides (args .pages .now) (length (args .bytes .now)) (args .self) one i h .1)
 
 try-each-requires : tie.Need-try-each-requires
 try-each-requires c κs = search needs
@@ -46,13 +48,17 @@ enum-known-failure c = search needs
 
 returns-2 : tie.Need-returns-2
 unfolding lookupOf
-returns-2 c = each-located _ _ (tested (c .before .before .before .before) ∙ c .before .before .before .if1 .left) _ (sym (c .before .before .try-each .ensures) ∙ c .enum-told .given .1)
+returns-2 c =
+    let after-try-each = c .before .before in
+    let else1 = after-try-each .before in
+    each-located _ _ (tested (else1 .before) ∙ else1 .if1 .left) _ (sym (after-try-each .try-each .ensures) ∙ c .enum-told .given .1)
 
 returns-3 : tie.Need-returns-3
 unfolding lookupOf
 returns-3 c =
-    let test = c .before .before .before .before in
-    each-located _ _ (tested (test .before) ∙ test .if1 .left) _ (sym (c .before .before .before .try-each .ensures) ∙ c .before .failure .given .1)
+    let after-try-each = c .before .before .before in
+    let else1 = after-try-each .before in
+    each-located _ _ (tested (else1 .before) ∙ else1 .if1 .left) _ (sym (after-try-each .try-each .ensures) ∙ c .before .failure .given .1)
 
 pub locate-spec : {M : Type 1} → statement M
 locate-spec =

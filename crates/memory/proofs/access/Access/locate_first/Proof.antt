@@ -27,7 +27,15 @@ on-kind-requires c κs = search needs
 
 returns-2 : tie.Need-returns-2
 unfolding firstLocated firstReach
-returns-2 c = rw (← c .before .before .before .before .before .wrap .ensures, sym (c .before .before .before .before .allows .ensures) ∙ not-false _ (c .before .before .before .if1 .left), ← c .before .before .number .ensures, ← c .before .find .ensures) (c .on-kind .ensures)
+returns-2 c =
+    let after-number = c .before .before in
+    let after-allows = after-number .before .before in
+    rw (
+      ← after-allows .before .wrap .ensures,
+      sym (after-allows .allows .ensures) ∙ not-false _ (after-number .before .if1 .left),
+      ← after-number .number .ensures,
+      ← c .before .find .ensures,
+    ) (c .on-kind .ensures)
 
 pub locate-first-spec : {M : Type 1} → statement M
 locate-first-spec =

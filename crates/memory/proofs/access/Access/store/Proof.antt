@@ -15,7 +15,9 @@ enum-known-place c = search needs
 
 store-within-requires : tie.Need-store-within-requires
 unfolding lookupOf
-store-within-requires c κs = on-lent-page _ _ _ _ (told _ _ _ (sym (c .before .before .place .given .1) ∙ c .before .before .before .before .locate .ensures))
+store-within-requires c κs =
+    let after-place = c .before .before in
+    on-lent-page _ _ _ _ (told _ _ _ (sym (after-place .place .given .1) ∙ after-place .before .before .locate .ensures))
 
 enum-told : tie.Need-enum-told
 enum-told c = search needs
@@ -35,8 +37,10 @@ same-length c = search needs
 returns : tie.Need-returns
 unfolding lookupOf
 returns c =
-    let placed = told _ _ _ (sym (c .before .before .before .before .before .place .given .1) ∙ c .before .before .before .before .before .before .before .locate .ensures) in
-    (sym (placed .ready), c .before .before .store-within .ensures ∙ sym (store-placed _ _ _ _ placed _ _))
+    let after-store-within = c .before .before in
+    let after-place = after-store-within .before .before .before in
+    let placed = told _ _ _ (sym (after-place .place .given .1) ∙ after-place .before .before .locate .ensures) in
+    (sym (placed .ready), after-store-within .store-within .ensures ∙ sym (store-placed _ _ _ _ placed _ _))
 
 same-length-2 : tie.Need-same-length-2
 same-length-2 c = search needs
@@ -44,8 +48,10 @@ same-length-2 c = search needs
 returns-2 : tie.Need-returns-2
 unfolding lookupOf written
 returns-2 c =
-    let ready = told _ _ _ (sym (c .before .before .before .before .before .enum-told .given .1) ∙ c .before .before .before .before .before .before .before .locate .ensures) in
-    (sym ready, rw (store-done _ _ _ _ ready, ← c .before .before .before .bytes2 .ensures) (c .before .before .write .ensures))
+    let after-write = c .before .before in
+    let after-enum-told = after-write .before .before .before in
+    let ready = told _ _ _ (sym (after-enum-told .enum-told .given .1) ∙ after-enum-told .before .before .locate .ensures) in
+    (sym ready, rw (store-done _ _ _ _ ready, ← after-write .before .bytes2 .ensures) (after-write .write .ensures))
 
 same-length-3 : tie.Need-same-length-3
 same-length-3 c = search needs

@@ -29,7 +29,14 @@ test-bytes-requires c κs = search needs
 returns-2 : tie.Need-returns-2
 unfolding probe listedBytes
 returns-2 c =
-    rw (← c .before .before .before .before .before .canonical-bytes .ensures, ready-next _ _ (ap not (sym (c .before .before .before .before .is-ready .ensures)) ∙ c .before .before .before .if1 .left), ← c .before .before .number .ensures, ← c .before .bytes .ensures)
+    let after-number = c .before .before in
+    let after-is-ready = after-number .before .before in
+    rw (
+      ← after-is-ready .before .canonical-bytes .ensures,
+      ready-next _ _ (ap not (sym (after-is-ready .is-ready .ensures)) ∙ after-number .before .if1 .left),
+      ← after-number .number .ensures,
+      ← c .before .bytes .ensures,
+    )
     (c .test-bytes .ensures)
 
 pub try-each-spec : {M : Type 1} → statement M

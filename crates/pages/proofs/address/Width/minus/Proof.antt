@@ -13,9 +13,11 @@ wrap-requires c κs = search needs
 
 returns : tie.Need-returns
 returns c =
+    let after-wrapping-sub-u64 = c .before in
+    let args = after-wrapping-sub-u64 .before .args in
     c .wrap .ensures
-    ∙ minus-wraps (c .before .before .args .self) (c .before .before .args .a) (c .before .before .args .b) (c .before .wrapping-sub-u64 .result)
-    (c .before .wrapping-sub-u64 .ensures)
+    ∙ minus-wraps (args .self) (args .a) (args .b) (after-wrapping-sub-u64 .wrapping-sub-u64 .result)
+    (after-wrapping-sub-u64 .wrapping-sub-u64 .ensures)
 
 pub minus-spec : {M : Type 1} → statement M
 minus-spec = tie.close (tie.spec wrapping-sub-u64-requires wrap-requires returns)

@@ -13,7 +13,9 @@ wrap-requires : tie.Need-wrap-requires
 wrap-requires c κs = search needs
 
 returns : tie.Need-returns
-returns c = c .wrap .ensures ∙ ap (wrapped (c .before .before .args .self)) (c .before .wrapping-add-u64 .ensures) ∙ plus-wraps (c .before .before .args .self) (c .before .before .args .a) (c .before .before .args .b)
+returns c =
+    let args = c .before .before .args in
+    c .wrap .ensures ∙ ap (wrapped (args .self)) (c .before .wrapping-add-u64 .ensures) ∙ plus-wraps (args .self) (args .a) (args .b)
 
 pub plus-spec : {M : Type 1} → statement M
 plus-spec = tie.close (tie.spec wrapping-add-u64-requires wrap-requires returns)

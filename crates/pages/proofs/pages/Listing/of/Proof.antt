@@ -7,14 +7,24 @@ use Rattle.pages.specs.Pages.{wrongLength, anyEntry, badKind, badAddress
 use Rattle.pages.proofs.pages.Listing.of.Statement.{statement}
 use Rattle.pages.proofs.pages.Listing.of.Tie as tie
 
+-- Of a place, the places on the way to it, called as `tie` calls them.
+abbrev way-any-entry2 : tie.After-any-entry2 → record { start : tie.Start; else1 : tie.Else1 }
+way-any-entry2 c =
+    let else1 = c .before .before .before in
+    record { start = else1 .before .before .before; else1 = else1 }
+
 -- each rule that a list has passed is not broken
-passed-1 : (c : tie.Else1) → wrongLength (length (c .before .before .before .args .pages .now)) (c .before .before .before .args .lent) ≡ false
+passed-1 : (c : tie.Else1) →
+    let args = c .before .before .before .args in
+    wrongLength (length (args .pages .now)) (args .lent) ≡ false
 passed-1 c = sym (c .before .wrong-length .ensures) ∙ c .if1 .left
 
-passed-2 : (c : tie.Else2) → anyEntry badKind (c .before .before .before .before .before .args .pages .now) ≡ false
+passed-2 : (c : tie.Else2) →
+    let args = c .before .before .before .before .before .args in
+    anyEntry badKind (args .pages .now) ≡ false
 passed-2 c = sym (c .before .any-entry .ensures) ∙ c .if2 .left
 
-passed-3 : (c : tie.Else3) → anyEntry badAddress (c .before .before .before .before .before .before .before .args .pages .now) ≡ false
+passed-3 : (c : tie.Else3) → anyEntry badAddress (way-any-entry2 (c .before) .start .args .pages .now) ≡ false
 passed-3 c = sym (c .before .any-entry2 .ensures) ∙ c .if3 .left
 
 wrong-length-requires : tie.Need-wrong-length-requires
@@ -36,18 +46,40 @@ any-entry-requires-2 c κs = search needs
 
 returns-3 : tie.Need-returns-3
 unfolding listing
-returns-3 c = rw (passed-1 (c .before .before .before .before), passed-2 (c .before .before), sym (c .before .any-entry2 .ensures) ∙ c .if3 .taken)
+returns-3 c =
+    let after-any-entry2 = c .before in
+    rw (
+      passed-1 (way-any-entry2 after-any-entry2 .else1),
+      passed-2 (after-any-entry2 .before),
+      sym (after-any-entry2 .any-entry2 .ensures) ∙ c .if3 .taken,
+    )
 
 repeated-requires : tie.Need-repeated-requires
 repeated-requires c κs = search needs
 
 returns-4 : tie.Need-returns-4
 unfolding listing
-returns-4 c = rw (passed-1 (c .before .before .before .before .before .before), passed-2 (c .before .before .before .before), passed-3 (c .before .before), sym (c .before .repeated .ensures) ∙ c .if4 .taken)
+returns-4 c =
+    let else3 = c .before .before in
+    let after-any-entry2 = else3 .before in
+    rw (
+      passed-1 (way-any-entry2 after-any-entry2 .else1),
+      passed-2 (after-any-entry2 .before),
+      passed-3 else3,
+      sym (c .before .repeated .ensures) ∙ c .if4 .taken,
+    )
 
 returns-5 : tie.Need-returns-5
 unfolding listing
-returns-5 c = rw (passed-1 (c .before .before .before .before .before .before), passed-2 (c .before .before .before .before), passed-3 (c .before .before), sym (c .before .repeated .ensures) ∙ c .if4 .left)
+returns-5 c =
+    let else3 = c .before .before in
+    let after-any-entry2 = else3 .before in
+    rw (
+      passed-1 (way-any-entry2 after-any-entry2 .else1),
+      passed-2 (after-any-entry2 .before),
+      passed-3 else3,
+      sym (c .before .repeated .ensures) ∙ c .if4 .left,
+    )
 
 pub of-spec : {M : Type 1} → statement M
 of-spec =

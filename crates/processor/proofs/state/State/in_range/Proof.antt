@@ -19,7 +19,10 @@ cet-fits-requires c κs = search needs
 returns-2 : tie.Need-returns-2
 unfolding inRange
 returns-2 c =
-    rw (sym (c .before .before .before .fixed-fit .ensures) ∙ not-false _ (c .before .before .if1 .left), sym (c .before .cet-fits .ensures) ∙ not-true _ (c .if2 .taken))
+    rw (
+      sym (c .before .before .before .fixed-fit .ensures) ∙ not-false _ (c .before .before .if1 .left),
+      sym (c .before .cet-fits .ensures) ∙ not-true _ (c .if2 .taken),
+    )
 
 cet-fits-requires-2 : tie.Need-cet-fits-requires-2
 cet-fits-requires-2 c κs = search needs
@@ -27,9 +30,11 @@ cet-fits-requires-2 c κs = search needs
 returns-3 : tie.Need-returns-3
 unfolding inRange
 returns-3 c =
+    let else2 = c .before .before in
+    let else1 = else2 .before .before in
     rw (
-      sym (c .before .before .before .before .before .fixed-fit .ensures) ∙ not-false _ (c .before .before .before .before .if1 .left),
-      sym (c .before .before .before .cet-fits .ensures) ∙ not-false _ (c .before .before .if2 .left),
+      sym (else1 .before .fixed-fit .ensures) ∙ not-false _ (else1 .if1 .left),
+      sym (else2 .before .cet-fits .ensures) ∙ not-false _ (else2 .if2 .left),
       sym (c .before .cet-fits2 .ensures) ∙ not-true _ (c .if3 .taken),
     )
 
@@ -39,10 +44,12 @@ pointers-fit-requires c κs = search needs
 returns-4 : tie.Need-returns-4
 unfolding inRange
 returns-4 c =
+    let after-cet-fits2 = c .before .before in
+    let after-cet-fits = after-cet-fits2 .before .before in
     rw (
-      sym (c .before .before .before .before .before .before .fixed-fit .ensures) ∙ not-false _ (c .before .before .before .before .before .if1 .left),
-      sym (c .before .before .before .before .cet-fits .ensures) ∙ not-false _ (c .before .before .before .if2 .left),
-      sym (c .before .before .cet-fits2 .ensures) ∙ not-false _ (c .before .if3 .left),
+      sym (after-cet-fits .before .before .fixed-fit .ensures) ∙ not-false _ (after-cet-fits .before .if1 .left),
+      sym (after-cet-fits .cet-fits .ensures) ∙ not-false _ (after-cet-fits2 .before .if2 .left),
+      sym (after-cet-fits2 .cet-fits2 .ensures) ∙ not-false _ (c .before .if3 .left),
     )
     (c .pointers-fit .ensures)
 

@@ -20,25 +20,30 @@ returns-2 c = rw (eq-eqb _ _ (c .before .before .if1 .left), sym (c .before .is-
 returns-3 : tie.Need-returns-3
 unfolding pointersFit
 returns-3 c =
-    rw (eq-eqb _ _ (c .before .before .before .before .if1 .left), sym (c .before .before .before .is-long .ensures) ∙ c .before .before .if2 .left, le-ltb _ _ (c .if3 .taken))
+    let else2 = c .before .before in
+    rw (eq-eqb _ _ (else2 .before .before .if1 .left), sym (else2 .before .is-long .ensures) ∙ else2 .if2 .left, le-ltb _ _ (c .if3 .taken))
 
 returns-4 : tie.Need-returns-4
 unfolding pointersFit
 returns-4 c =
+    let else3 = c .before .before in
+    let else2 = else3 .before .before in
     rw (
-      eq-eqb _ _ (c .before .before .before .before .before .before .if1 .left),
-      sym (c .before .before .before .before .before .is-long .ensures) ∙ c .before .before .before .before .if2 .left,
-      lt-ltb _ _ (c .before .before .if3 .left),
+      eq-eqb _ _ (else2 .before .before .if1 .left),
+      sym (else2 .before .is-long .ensures) ∙ else2 .if2 .left,
+      lt-ltb _ _ (else3 .if3 .left),
       le-ltb _ _ (c .if4 .taken),
     )
 
 returns-5 : tie.Need-returns-5
 unfolding pointersFit
 returns-5 c =
+    let else3 = c .before .before .before in
+    let else2 = else3 .before .before in
     rw (
-      eq-eqb _ _ (c .before .before .before .before .before .before .before .if1 .left),
-      sym (c .before .before .before .before .before .before .is-long .ensures) ∙ c .before .before .before .before .before .if2 .left,
-      lt-ltb _ _ (c .before .before .before .if3 .left),
+      eq-eqb _ _ (else2 .before .before .if1 .left),
+      sym (else2 .before .is-long .ensures) ∙ else2 .if2 .left,
+      lt-ltb _ _ (else3 .if3 .left),
       lt-ltb _ _ (c .before .if4 .left),
     )
 

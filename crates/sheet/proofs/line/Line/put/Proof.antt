@@ -44,7 +44,20 @@ add-put-fields : tie.Need-add-put-fields
 add-put-fields c = search needs
 
 put-fields-requires : tie.Need-put-fields-requires
-put-fields-requires c κs = rw (fields-length (c .before .before .before .before .before .before .before .before .before .before .before .args .values .now)) (omega (arith, c .before .before .text .given, c .before .before .before .before .before .before .before .first .ensures, c .before .before .before .before .before .if3 .left, c .before .before .before .before .before .before .if2 .left, c .before .before .before .before .before .before .before .before .if1 .left))
+put-fields-requires c κs =
+    let after-text = c .before .before in
+    let else3 = after-text .before .before .before in
+    let after-first = else3 .before .before in
+    let args = after-first .before .before .before .before .args in
+    rw (fields-length (args .values .now))
+    (omega (
+      arith,
+      after-text .text .given,
+      after-first .first .ensures,
+      else3 .if3 .left,
+      else3 .before .if2 .left,
+      after-first .before .if1 .left,
+    ))
 
 slice-aggregate-copy : tie.Need-slice-aggregate-copy
 slice-aggregate-copy c = search needs
@@ -60,12 +73,28 @@ same-length c = search needs
 
 returns-4 : tie.Need-returns-4
 returns-4 c =
-    let at = c .before .before .before .before .before .before .before .before .before .before .before .before .before .before .before .before .before .before .before .args .at in
-    let values = c .before .before .before .before .before .before .before .before .before .before .before .before .before .before .before .before .before .before .before .args .values .now in
-    let named : ℕ = c .before .before .before .before .before .before .before .before .before .before .before .before .before .before .before .first .result - 2 in
-    let is-named : named ≡ length (name (c .before .before .before .before .before .before .before .before .before .before .before .before .before .before .before .before .before .before .before .args .self)) = omega (arith, c .before .before .before .before .before .before .before .before .before .before .before .before .before .before .before .first .ensures) in
-    let room : at + (named + 18 * length values + 1) ≤ length (c .before .before .before .before .before .before .before .before .before .before .before .before .before .before .before .before .before .before .before .args .text .now) = omega (arith, c .before .before .before .before .before .before .before .before .before .before .before .before .before .if3 .left, c .before .before .before .before .before .before .before .before .before .before .before .before .before .before .if2 .left, c .before .before .before .before .before .before .before .before .before .before .before .before .before .before .before .before .if1 .left) in
-    rw (c .before .before .copy .ensures, c .before .before .before .before .before .before .before .put-fields .ensures, c .before .before .before .before .before .before .before .before .before .before .before .put-name .ensures) (line-laid (c .before .before .before .before .before .before .before .before .before .before .before .before .before .before .before .before .before .before .before .args .text .now) at (c .before .before .before .before .before .before .before .before .before .before .before .before .before .before .before .before .before .before .before .args .self) values named (named + 18 * length values) is-named refl room)
+    let after-copy = c .before .before in
+    let after-put-fields = after-copy .before .before .before .before .before in
+    let after-put-name = after-put-fields .before .before .before .before in
+    let else3 = after-put-name .before .before in
+    let after-first = else3 .before .before in
+    let args = after-first .before .before .before .before .args in
+    let at = args .at in
+    let values = args .values .now in
+    let named : ℕ = after-first .first .result - 2 in
+    let is-named : named ≡ length (name (args .self)) = omega (arith, after-first .first .ensures) in
+    let room : at + (named + 18 * length values + 1) ≤ length (args .text .now) = omega (
+      arith,
+      else3 .if3 .left,
+      else3 .before .if2 .left,
+      after-first .before .if1 .left,
+    ) in
+    rw (
+      after-copy .copy .ensures,
+      after-put-fields .put-fields .ensures,
+      after-put-name .put-name .ensures,
+    )
+    (line-laid (args .text .now) at (args .self) values named (named + 18 * length values) is-named refl room)
 
 pub put-spec : {M : Type 1} → statement M
 put-spec =
