@@ -62,7 +62,7 @@ call target framed span s =
     let ssp : ℕ = minus s (s .ssp) (byteCount size) in
     do
       unless (inCode s target) gp  -- #GP(0)
-      unless (not (runsPast s sp)) ss  -- #SS(0)
-      store (ordinary s sp size true) (next s span)
+      unless (not (runsPast s sp)) ss  -- #SS(0), outside mode 2
+      store (ordinary s sp size true) (next s span)  -- #SS(0) where a byte is not canonical
       onlyIf (pushesFrame s framed) (store (shadow s ssp size true) (next s span))
       done (withIp (withSsp (withSp s sp) (cond (pushesFrame s framed) ssp (s .ssp))) target)

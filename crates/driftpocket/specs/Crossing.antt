@@ -49,7 +49,7 @@ answered state bytes report count answer = record { number = numberOf answer; st
 abbrev pub ran : List ℕ → Run → Crossing
 ran report r = answered (wordsOf (r .state)) (r .bytes) report (r .count) (r .answer)
 
--- what is checkBy before any step, as an answer
+-- what is tested before any step, as an answer
 abbrev pub testedAs : Tested → Answer
 testedAs Passed = Completed
 testedAs (Failed refusal) = Refused refusal

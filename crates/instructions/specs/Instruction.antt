@@ -13,7 +13,7 @@ use Rattle.instructions.specs.declared.operation.Operation.the-variants.
 use Rattle.instructions.specs.declared.operation.Target.{Target}
 use Rattle.instructions.specs.declared.operation.Target.the-variants.{Relative, Absolute}
 use Rattle.instructions.specs.declared.operation.Release.{Release}
-use Rattle.instructions.specs.declared.operation.Release.the-variants.{Address, Count}
+use Rattle.instructions.specs.declared.operation.Release.the-variants.{Plain, Counted}
 
 -- the k-th instruction of a list of words, counted from 0
 unfoldable pub instructionAt : List ℕ → ℕ → Instruction
@@ -35,8 +35,8 @@ targetFits Absolute a = true
 
 -- the operand of a return: none, or a count of 16 bits
 abbrev pub releaseFits : Release → ℕ → Bool
-releaseFits Address a = eqb a 0
-releaseFits Count a = ltb a (2 ^ 16)
+releaseFits Plain a = eqb a 0
+releaseFits Counted a = ltb a (2 ^ 16)
 
 -- the code is known, the words that it does not use are 0, and those that it uses have the bits that they may have
 abbrev pub wordsFit : Operation → Instruction → Bool
@@ -49,7 +49,7 @@ wordsFit (Ret release) i = releaseFits release (i .a) && eqb (i .b) 0
 wordsFit (Wruss size) i = true
 wordsFit Unknown i = false
 
--- mode 0 has no call and no return
+-- mode 0 has no call and no return; a code that is not known has been refused by its words
 abbrev pub inMode0 : Operation → Bool
 inMode0 (Incssp size) = true
 inMode0 Rstorssp = true

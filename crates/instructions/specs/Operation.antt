@@ -7,7 +7,7 @@ use Rattle.memory.specs.declared.access.Size.the-variants.{Four, Eight}
 use Rattle.instructions.specs.declared.operation.Operation.{Operation}
 use Rattle.instructions.specs.declared.operation.Operation.the-variants.{Incssp, Rstorssp, Saveprevssp, Wrss, Call, Ret, Wruss, Unknown}
 use Rattle.instructions.specs.declared.operation.Target.the-variants.{Relative, Absolute}
-use Rattle.instructions.specs.declared.operation.Release.the-variants.{Address, Count}
+use Rattle.instructions.specs.declared.operation.Release.the-variants.{Plain, Counted}
 
 unfoldable pub decoded : ℕ → Operation
 decoded code =
@@ -19,8 +19,8 @@ decoded code =
     (cond (eqb code 6) (Wrss Eight)
     (cond (eqb code 7) (Call Relative)
     (cond (eqb code 8) (Call Absolute)
-    (cond (eqb code 9) (Ret Address)
-    (cond (eqb code 10) (Ret Count)
+    (cond (eqb code 9) (Ret Plain)
+    (cond (eqb code 10) (Ret Counted)
     (cond (eqb code 11) (Wruss Four)
     (cond (eqb code 12) (Wruss Eight)
     Unknown)))))))))))

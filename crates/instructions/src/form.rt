@@ -31,8 +31,8 @@ fn release_fits(release: Release, a: u64) -> bool
     ensures { λ r. ⌜ r ≡ releaseFits release a ⌝ }
 {
     match release {
-        Release::Address => a == 0,
-        Release::Count => a < 0x1_0000,
+        Release::Plain => a == 0,
+        Release::Counted => a < 0x1_0000,
     }
 }
 

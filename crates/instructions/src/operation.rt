@@ -11,8 +11,8 @@ pub enum Target {
 
 // What a near RET takes off the stack: the return address, or bytes besides, as many as its count says.
 pub enum Release {
-    Address,
-    Count,
+    Plain,
+    Counted,
 }
 
 // An operation, with what its code says of its form. The sizes are those of an element or of a store.
@@ -41,8 +41,8 @@ impl Operation {
             6 => Operation::Wrss(Size::Eight),
             7 => Operation::Call(Target::Relative),
             8 => Operation::Call(Target::Absolute),
-            9 => Operation::Ret(Release::Address),
-            10 => Operation::Ret(Release::Count),
+            9 => Operation::Ret(Release::Plain),
+            10 => Operation::Ret(Release::Counted),
             11 => Operation::Wruss(Size::Four),
             12 => Operation::Wruss(Size::Eight),
             _ => Operation::Unknown,

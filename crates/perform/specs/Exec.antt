@@ -17,7 +17,7 @@ use Rattle.instructions.specs.declared.instruction.Instruction.{Instruction}
 use Rattle.instructions.specs.declared.operation.Operation.{Operation}
 
 -- An instruction set: the forms that it takes, what precedes every instruction, WRSS too, and what each instruction but WRSS does, all
--- by the state that operations see.
+-- by the state that operations see: the one without the permission bits (`hidden`).
 pub record InstructionSet : Type 0 where
   pub fits : Instruction → State → Bool
   pub precedes : Instruction → State → Prog (Unit {0})

@@ -24,7 +24,7 @@ use Rattle.memory.specs.declared.access.Size.{Size}
 use Rattle.memory.specs.declared.access.Size.the-variants.{Four, Eight}
 use Rattle.memory.specs.declared.load.Loaded.the-variants.{Value, Blocked as Unloaded}
 use Rattle.memory.proofs.Laws.{loaded-value, loaded-failure}
-use Rattle.stores.specs.Stores.{orElse, tryAll, writtenAll}
+use Rattle.stores.specs.Stores.{thenTry, tryAll, writtenAll}
 use Rattle.stores.specs.declared.Slot.{Slot}
 use Rattle.stores.specs.declared.Slot.the-variants.{Empty, Store}
 use Rattle.stores.specs.declared.Stored.{Stored}
@@ -134,7 +134,7 @@ module _ (look : Lookup) {A : Type 0} (p : Prog A) where
   all-tried (Empty ∷ rest) bytes = refl
   all-tried (Store a v ∷ rest) bytes = go (probe look a) (tryAll look rest) (interp look p (writtenAll look rest (written look a v bytes))) (all-tried rest (written look a v bytes))
     where
-      go : (r : Reach) (later : Stored) {before : Result A} (after : Result A) → before ≡ onStored later after → onReach a r before ≡ onStored (orElse a r later) after
+      go : (r : Reach) (later : Stored) {before : Result A} (after : Result A) → before ≡ onStored later after → onReach a r before ≡ onStored (thenTry a r later) after
       go Ready later after e = e
       go (Blocked failure) later after e = refl
 

@@ -1,4 +1,4 @@
--- The accesses that the processor makes, and the fault of one that cannot be done (docs/RULES.md, "Reaching a byte"). Assumes nothing.
+-- The accesses that the processor makes (docs/RULES.md, "Reaching a byte"). Assumes nothing.
 use Prim.Native.Nat.{ℕ}
 use mathlib.Core.Bool.{Bool, true, false, cond}
 use Rattle.memory.specs.declared.access.Access.{Access}

@@ -31,7 +31,7 @@ wordsOf s = s .mode ∷ s .cpl ∷ s .cet ∷ s .ucet ∷ s .scet ∷ s .ip ∷ 
 
 -- ---- registers changed
 
--- U_CET and S_CET
+-- U_CET and S_CET; CR4.CET is another field, `cet`
 abbrev pub withCet : State → ℕ → ℕ → State
 withCet s ucet scet =
     record { mode = s .mode; cpl = s .cpl; cet = s .cet; ucet = ucet; scet = scet; ip = s .ip; sp = s .sp; ssp = s .ssp; flags = s .flags; limit = s .limit }

@@ -9,8 +9,8 @@
 pub mod Layout
 pub mod State
 pub mod Accesses
-pub mod Outcomes
 pub mod Prog
+pub mod Outcomes
 pub mod Bits
 -- serves the contracts of the operations' private functions
 pub mod Popped

@@ -18,8 +18,8 @@ abbrev pub faulted : State → Fault → Outcome
 faulted s fault = record { answer = Faulted fault; state = s }
 
 -- so does a refusal
-abbrev pub refusedWith : State → Refusal → Outcome
-refusedWith s refusal = record { answer = Refused refusal; state = s }
+abbrev pub refused : State → Refusal → Outcome
+refused s refusal = record { answer = Refused refusal; state = s }
 
 -- an outcome with the bytes that are left, as one step
 abbrev pub stepOf : Outcome → List ℕ → Step

@@ -27,7 +27,7 @@ plus s a b = plusAt (widthOf s) a b
 unfoldable pub minus : State → ℕ → ℕ → ℕ
 minus s a b = minusAt (widthOf s) a b
 
--- the rules call it Next
+-- the rules call it Next; `span` is the instruction's length in bytes, here and in the operations
 unfoldable pub next : State → ℕ → ℕ
 next s span = plus s (s .ip) span
 

@@ -1,7 +1,7 @@
 // What an operation hands back: its answer and the whole state.
 ghost use mathlib.Core.Path.{_≡_};
 ghost use Rattle.processor.specs.Layout.{withSp, withSsp, withFlags};
-ghost use Rattle.processor.specs.Outcomes.{completed, faulted as faultedWith, refusedWith as refused};
+ghost use Rattle.processor.specs.Outcomes.{completed, faulted as faultedWith, refused as refusedWith};
 use crate::state::State;
 use answers::Answer;
 use answers::Fault;
@@ -62,7 +62,7 @@ impl State {
 
     // It is refused, and the state is the one from before it.
     pub fn refuse(self, refusal: Refusal) -> Outcome
-        ensures { λ r. ⌜ r ≡ refused self refusal ⌝ }
+        ensures { λ r. ⌜ r ≡ refusedWith self refusal ⌝ }
     {
         Outcome {
             answer: Answer::Refused(refusal),

@@ -88,7 +88,7 @@ abbrev pub stepIf : Tested → Step → State → List ℕ → Step
 stepIf Passed go s bytes = go
 stepIf (Failed refusal) go s bytes = refused refusal s bytes
 
--- the first instruction of the list by itself, with every refusal that it can have
+-- the first instruction of the list by itself, with every refusal that it can have; asked of lists of one (`alone`)
 unfoldable pub step : InstructionSet → Input → Step
 step set given =
     stepIf (check given) (perform set (lookOf given) (listed given 0) (given .state) (given .bytes)) (given .state) (given .bytes)

@@ -19,7 +19,7 @@ use Rattle.memory.specs.declared.access.Reach.{Reach}
 use Rattle.memory.specs.declared.access.Reach.the-variants.{Ready as Reached, Blocked}
 use Rattle.memory.specs.declared.one_page.Located.the-variants.{Within, Across, Blocked as Unreached}
 use Rattle.memory.proofs.Laws.{told, lookup-kept, length-written}
-use Rattle.stores.specs.Stores.{orElse, tryAll, writtenAll}
+use Rattle.stores.specs.Stores.{thenTry, tryAll, writtenAll}
 use Rattle.stores.specs.Places.{noPlace, Lies, Ready}
 use Rattle.stores.specs.declared.Slot.{Slot}
 use Rattle.stores.specs.declared.Slot.the-variants.{Empty, Store}
@@ -30,7 +30,7 @@ use Rattle.stores.specs.declared.Stored.the-variants.{AllStored, NoneSto
 
 abbrev tryFirst : Lookup → Slot → Stored → Stored
 tryFirst look Empty next = AllStored
-tryFirst look (Store a v) next = orElse a (probe look a) next
+tryFirst look (Store a v) next = thenTry a (probe look a) next
 
 abbrev writeFirst : Lookup → Slot → (List ℕ → List ℕ) → List ℕ → List ℕ
 writeFirst look Empty next bytes = bytes
@@ -143,7 +143,7 @@ module _ {pages lent : List ℕ} {slots : List Slot} {places bytes : List ℕ} {
 
   module _ {a : Access} {v : ℕ} (here : getD slots i Empty ≡ Store a v) where
     -- what trying finds at a store
-    at-store : orElse a (probe (lookupOf pages lent) a) (tryAll (lookupOf pages lent) (drop (suc i) slots)) ≡ AllStored
+    at-store : thenTry a (probe (lookupOf pages lent) a) (tryAll (lookupOf pages lent) (drop (suc i) slots)) ≡ AllStored
     at-store =
         ap (λ (slot : Slot). tryFirst (lookupOf pages lent) slot (tryAll (lookupOf pages lent) (drop (suc i) slots))) (sym here)
         ∙ sym (try-from (lookupOf pages lent) slots i)
@@ -152,7 +152,7 @@ module _ {pages lent : List ℕ} {slots : List Slot} {places bytes : List ℕ} {
     both : (probe (lookupOf pages lent) a ≡ Reached) × (tryAll (lookupOf pages lent) (drop (suc i) slots) ≡ AllStored)
     both = go (probe (lookupOf pages lent) a) at-store
       where
-        go : (r : Reach) → orElse a r (tryAll (lookupOf pages lent) (drop (suc i) slots)) ≡ AllStored → (r ≡ Reached) × (tryAll (lookupOf pages lent) (drop (suc i) slots) ≡ AllStored)
+        go : (r : Reach) → thenTry a r (tryAll (lookupOf pages lent) (drop (suc i) slots)) ≡ AllStored → (r ≡ Reached) × (tryAll (lookupOf pages lent) (drop (suc i) slots) ≡ AllStored)
         go Reached e = (refl, e)
         go (Blocked failure) e = let z : _≡_ {A = ℕ} 0 1 = cc in absurd (omega arith)
 

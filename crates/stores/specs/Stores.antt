@@ -12,15 +12,15 @@ use Rattle.stores.specs.declared.Stored.{Stored}
 use Rattle.stores.specs.declared.Stored.the-variants.{AllStored, NoneStored}
 
 -- a store that can be done leaves it to those after it
-abbrev pub orElse : Access → Reach → Stored → Stored
-orElse a Ready next = next
-orElse a (Blocked failure) next = NoneStored a failure
+abbrev pub thenTry : Access → Reach → Stored → Stored
+thenTry a Ready next = next
+thenTry a (Blocked failure) next = NoneStored a failure
 
 -- what trying the stores in their order finds; an empty slot ends the list
 unfoldable pub tryAll : Lookup → List Slot → Stored
 tryAll look [] = AllStored
 tryAll look (Empty ∷ rest) = AllStored
-tryAll look (Store a v ∷ rest) = orElse a (probe look a) (tryAll look rest)
+tryAll look (Store a v ∷ rest) = thenTry a (probe look a) (tryAll look rest)
 
 -- the bytes that the stores leave once they are made, one after the other
 unfoldable pub writtenAll : Lookup → List Slot → List ℕ → List ℕ
