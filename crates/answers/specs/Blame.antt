@@ -1,7 +1,7 @@
 -- The fault of an access that cannot be done. Assumes nothing.
 use Rattle.memory.specs.declared.access.Access.{Access}
-use Rattle.memory.specs.declared.access.Failure.{Failure}
-use Rattle.memory.specs.declared.access.Failure.the-variants.{NotCanonical, NotListed, WrongKind}
+use Rattle.rows.specs.declared.reach.Failure.{Failure}
+use Rattle.rows.specs.declared.reach.Failure.the-variants.{NotCanonical, NotListed, WrongKind}
 use Rattle.memory.specs.declared.access.Kind.{Kind}
 use Rattle.memory.specs.declared.access.Kind.the-variants.{UserShadow, SupervisorShadow, Ordinary}
 use Rattle.answers.specs.Answer.{ss, gp, pageFault}

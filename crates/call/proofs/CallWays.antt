@@ -3,10 +3,10 @@ use Prim.Native.Nat.{ℕ}
 use mathlib.Core.Path.{_≡_, refl, _∙_, ap}
 use mathlib.Core.Bool.{Bool, true, false, not, cond}
 use mathlib.Core.List.{List, [], _∷_}
-use Rattle.memory.specs.Access.{byteCount}
+use Rattle.rows.specs.Rows.{byteCount}
 use Rattle.pages.specs.Pages.{Lookup}
 use Rattle.memory.specs.declared.access.Access.{Access}
-use Rattle.memory.specs.declared.access.Failure.{Failure}
+use Rattle.rows.specs.declared.reach.Failure.{Failure}
 use Rattle.stores.specs.Stores.{tryAll, writtenAll}
 use Rattle.stores.specs.declared.Slot.{Slot}
 use Rattle.stores.specs.declared.Slot.the-variants.{Empty, Store}
@@ -20,7 +20,8 @@ use Rattle.processor.specs.Outcomes.{completed, faulted, stepOf}
 use Rattle.processor.specs.Prog.{Prog, done, _>>=_, _>>_, store, onlyIf, interp, operate}
 use Rattle.processor.specs.declared.state.State.{State}
 use Rattle.processor.proofs.Laws.{passed, halted, putAll, all-stored, none-stored, completes, faults}
-use Rattle.call.specs.Call.{inCode, pushed, runsPast, pushesFrame, call}
+use Rattle.targets.specs.Targets.{inCode, pushed, runsPast}
+use Rattle.call.specs.Call.{pushesFrame, call}
 use Rattle.call.specs.Frame.{newSsp, frameOf}
 
 -- SP after the push

@@ -1,3 +1,2 @@
--- Laws that belong to no one function of Near CALL.
+-- Laws that belong to no one function of near CALL.
 mod CallWays
-mod SignedNumbers

@@ -1,12 +1,13 @@
 -- What a call does to the shadow stack, as the code has it, for the contract of a private function. Assumes nothing.
 use Prim.Native.Nat.{ℕ}
 use mathlib.Core.Bool.{Bool, true, cond}
-use Rattle.memory.specs.Access.{byteCount}
+use Rattle.rows.specs.Rows.{byteCount}
 use Rattle.stores.specs.declared.Slot.the-variants.{Empty, Store}
 use Rattle.processor.specs.State.{minus}
 use Rattle.processor.specs.Accesses.{shadow}
 use Rattle.processor.specs.declared.state.State.{State}
-use Rattle.call.specs.Call.{pushed, pushesFrame}
+use Rattle.targets.specs.Targets.{pushed}
+use Rattle.call.specs.Call.{pushesFrame}
 use Rattle.call.specs.declared.Frame.{Frame}
 
 -- SSP after a push

@@ -10,9 +10,9 @@ use Rattle.memory.specs.Access.{probe, value, written}
 use Rattle.memory.specs.Extends.{Extends, Places}
 use Rattle.pages.specs.Pages.{Lookup}
 use Rattle.memory.specs.declared.access.Access.{Access}
-use Rattle.memory.specs.declared.access.Failure.the-variants.{NotCanonical, NotListed, WrongKind}
-use Rattle.memory.specs.declared.access.Reach.{Reach}
-use Rattle.memory.specs.declared.access.Reach.the-variants.{Ready, Blocked}
+use Rattle.rows.specs.declared.reach.Failure.the-variants.{NotCanonical, NotListed, WrongKind}
+use Rattle.rows.specs.declared.reach.Reach.{Reach}
+use Rattle.rows.specs.declared.reach.Reach.the-variants.{Ready, Blocked}
 use Rattle.memory.proofs.Laws.{length-written, ready-in-second, same-value, store-in-both, not-canonical}
 use Rattle.answers.specs.Blame.{blame}
 use Rattle.processor.specs.Prog.{Prog, done, stop, fetch, put, Result, ended, broken, onReach, interp, Step, settle, operate}

@@ -11,8 +11,8 @@ use Rattle.memory.specs.Extends.{cell}
 use Rattle.pages.specs.Pages.{Lookup}
 use Rattle.memory.specs.declared.access.Access.{Access}
 use Rattle.memory.specs.declared.access.Kind.the-variants.{Ordinary}
-use Rattle.memory.specs.declared.access.Reach.{Reach}
-use Rattle.memory.specs.declared.access.Reach.the-variants.{Ready, Blocked}
+use Rattle.rows.specs.declared.reach.Reach.{Reach}
+use Rattle.rows.specs.declared.reach.Reach.the-variants.{Ready, Blocked}
 use Rattle.memory.proofs.Laws.{length-written, same-kind-probe, written-on-kind}
 use Rattle.processor.specs.Accesses.{ordinary}
 use Rattle.answers.specs.Answer.{ss, gp}
@@ -23,7 +23,8 @@ use Rattle.answers.specs.declared.answer.Answer.the-variants.{Faulted}
 use Rattle.answers.specs.declared.answer.Refusal.the-variants.{Instruction as BadForm}
 use Rattle.processor.specs.declared.state.State.{State}
 use Rattle.processor.proofs.Laws.{continues, breaks}
-use Rattle.call.specs.Call.{displacement, moved, relative, displaced, inCode, pushed, runsPast, pushesFrame, call}
+use Rattle.targets.specs.Targets.{displacement, moved, relative, displaced, inCode, pushed, runsPast}
+use Rattle.call.specs.Call.{pushesFrame, call}
 use Rattle.instructions.specs.Instruction.{wellFormed}
 use Rattle.instructions.specs.Permission.{hidden, shown}
 use Rattle.perform.specs.Exec.{exec, refused, perform}

@@ -5,7 +5,7 @@ use mathlib.Core.Bool.{Bool, true, not, cond}
 use mathlib.Core.List.{List}
 use mathlib.Core.Logic.{_⊎_, inl, inr}
 use mathlib.Core.Path.{_≡_, refl}
-use Rattle.memory.specs.Access.{byteCount}
+use Rattle.rows.specs.Rows.{byteCount}
 use Rattle.pages.specs.Pages.{Lookup}
 use Rattle.memory.specs.declared.access.Access.{Access}
 use Rattle.answers.specs.Answer.{ss, gp}
@@ -13,7 +13,8 @@ use Rattle.processor.specs.Accesses.{shadow, ordinary}
 use Rattle.processor.specs.Layout.{withIp, withSp, withSsp}
 use Rattle.processor.specs.State.{minus, next}
 use Rattle.processor.specs.declared.state.State.{State}
-use Rattle.call.specs.Call.{inCode, pushed, runsPast, pushesFrame, call}
+use Rattle.targets.specs.Targets.{inCode, pushed, runsPast}
+use Rattle.call.specs.Call.{pushesFrame, call}
 use Rattle.claims.proofs.Walks.{Rule, Walks, end-walks, tested-walks, store-walks, only-walks}
 
 -- SP and SSP below what is pushed

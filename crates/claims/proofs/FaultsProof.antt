@@ -10,8 +10,8 @@ use lib.Dec.{eqb}
 use borrow.Author.Tests.{ne-eqb}
 use Rattle.pages.specs.Pages.{Lookup}
 use Rattle.memory.specs.declared.access.Access.{Access}
-use Rattle.memory.specs.declared.access.Failure.{Failure}
-use Rattle.memory.specs.declared.access.Failure.the-variants.{NotCanonical, NotListed, WrongKind}
+use Rattle.rows.specs.declared.reach.Failure.{Failure}
+use Rattle.rows.specs.declared.reach.Failure.the-variants.{NotCanonical, NotListed, WrongKind}
 use Rattle.memory.specs.declared.access.Kind.{Kind}
 use Rattle.memory.specs.declared.access.Kind.the-variants.{UserShadow, SupervisorShadow, Ordinary}
 use Rattle.answers.specs.Blame.{notCanonical, blame}

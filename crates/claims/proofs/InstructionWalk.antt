@@ -11,7 +11,7 @@ use mathlib.Core.Path.{_≡_, refl, sym}
 use Rattle.memory.specs.Access.{probe, written}
 use Rattle.pages.specs.Pages.{Lookup}
 use Rattle.memory.specs.declared.access.Access.{Access}
-use Rattle.memory.specs.declared.access.Reach.the-variants.{Ready}
+use Rattle.rows.specs.declared.reach.Reach.the-variants.{Ready}
 use Rattle.answers.specs.Answer.{ud}
 use Rattle.processor.specs.State.{permitted}
 use Rattle.processor.specs.Prog.{Result, ended, broken, interp, Step, settle, operate}

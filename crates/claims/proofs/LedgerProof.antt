@@ -6,7 +6,7 @@ use mathlib.Core.Path.{_≡_, refl, sym, _∙_, ap, subst}
 use native.Mathlib.Omega.{arith}
 use lib.Dec.{eqb, ltb}
 use borrow.Author.Tests.{ltb-true}
-use Rattle.memory.specs.Access.{byteCount}
+use Rattle.rows.specs.Rows.{byteCount}
 use Rattle.pages.specs.Address.{wrapped}
 use Rattle.pages.specs.Pages.{Lookup}
 use Rattle.pages.specs.declared.address.Width.{Width}
@@ -16,7 +16,8 @@ use Rattle.processor.specs.State.{widthOf, enabled, plus, minus}
 use Rattle.answers.specs.declared.answer.Answer.the-variants.{Completed}
 use Rattle.processor.specs.declared.state.State.{State}
 use Rattle.saveprevssp.specs.Saveprevssp.{carry}
-use Rattle.call.specs.Call.{pushed, displaced, pushesFrame}
+use Rattle.targets.specs.Targets.{pushed, displaced}
+use Rattle.call.specs.Call.{pushesFrame}
 use Rattle.instructions.specs.Operation.{decoded}
 use Rattle.instructions.specs.Instruction.{wordsFit, fits, wellFormed}
 use Rattle.instructions.specs.Permission.{hidden, shown}

@@ -8,8 +8,8 @@ use Rattle.memory.specs.Access.{probe, value, written}
 use Rattle.memory.specs.Extends.{Places, HoldsPages}
 use Rattle.pages.specs.Pages.{Lookup, listing}
 use Rattle.memory.specs.declared.access.Access.{Access}
-use Rattle.memory.specs.declared.access.Reach.{Reach}
-use Rattle.memory.specs.declared.access.Reach.the-variants.{Ready, Blocked}
+use Rattle.rows.specs.declared.reach.Reach.{Reach}
+use Rattle.rows.specs.declared.reach.Reach.the-variants.{Ready, Blocked}
 use Rattle.pages.specs.declared.pages.Listing.the-variants.{Valid}
 use Rattle.memory.proofs.Laws.{lookup-places, same-value, alike-probe, order-free as same-cells}
 use Rattle.processor.specs.Prog.{Prog, done, stop, fetch, put, Result, onReach, interp, settle, operate}

@@ -6,17 +6,18 @@ use mathlib.Core.Path.{_≡_, refl, _∙_}
 use native.Mathlib.Omega.{arith}
 use lib.Dec.{eqb, ltb}
 use borrow.Author.Tests.{ltb-true, leb-true, eqb-true, eqb-false, not-true, eq-eqb}
-use Rattle.memory.specs.Access.{byteCount}
+use Rattle.rows.specs.Rows.{byteCount}
 use Rattle.pages.specs.Pages.{Lookup}
 use Rattle.pages.specs.declared.address.Width.the-variants.{Bits32}
-use Rattle.memory.specs.declared.access.Size.{Size}
-use Rattle.memory.specs.declared.access.Size.the-variants.{Four, Eight}
+use Rattle.rows.specs.declared.size.Size.{Size}
+use Rattle.rows.specs.declared.size.Size.the-variants.{Four, Eight}
 use Rattle.processor.specs.Layout.{withCet, withIp, withSp, withSsp, withFlags}
 use Rattle.pages.proofs.Laws.{plus-below, minus-below, plus-aligned, minus-aligned}
 use Rattle.processor.specs.State.{isLong, widthOf, cetFits, enabled, usable, inRange, plus, minus, next}
 use Rattle.processor.specs.declared.state.State.{State}
 use Rattle.saveprevssp.specs.Saveprevssp.{carry}
-use Rattle.call.specs.Call.{inCode, pushed, pushesFrame}
+use Rattle.targets.specs.Targets.{inCode, pushed}
+use Rattle.call.specs.Call.{pushesFrame}
 use Rattle.instructions.specs.Operation.{decoded}
 use Rattle.instructions.specs.Instruction.{wordsFit, lengthFits, inMode1, narrow, modeFits, fits, wellFormed}
 use Rattle.instructions.specs.Permission.{hidden, shown}

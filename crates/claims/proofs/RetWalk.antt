@@ -6,7 +6,8 @@ use mathlib.Core.List.{List}
 use mathlib.Core.Logic.{_⊎_, inl, inr}
 use mathlib.Core.Path.{_≡_, refl}
 use lib.Dec.{eqb}
-use Rattle.memory.specs.Access.{byteCount, value}
+use Rattle.rows.specs.Rows.{byteCount}
+use Rattle.memory.specs.Access.{value}
 use Rattle.pages.specs.Pages.{Lookup}
 use Rattle.memory.specs.declared.access.Access.{Access}
 use Rattle.answers.specs.Answer.{ss, gp, cpNearRet}
@@ -14,7 +15,7 @@ use Rattle.processor.specs.Accesses.{shadow, ordinary}
 use Rattle.processor.specs.Layout.{withIp, withSp, withSsp}
 use Rattle.processor.specs.State.{enabled, plus}
 use Rattle.processor.specs.declared.state.State.{State}
-use Rattle.call.specs.Call.{inCode, pushed, runsPast}
+use Rattle.targets.specs.Targets.{inCode, pushed, runsPast}
 use Rattle.ret.specs.Ret.{popFrame, newSsp, ret}
 use Rattle.claims.proofs.Walks.{Rule, Walks, endingIn, end-walks, then-walks, tested-walks, load-walks, picked-walks}
 

@@ -13,9 +13,9 @@ use mathlib.Core.Path.{_≡_, refl}
 use Rattle.memory.specs.Access.{probe, value, written}
 use Rattle.pages.specs.Pages.{Lookup}
 use Rattle.memory.specs.declared.access.Access.{Access}
-use Rattle.memory.specs.declared.access.Failure.{Failure}
-use Rattle.memory.specs.declared.access.Reach.{Reach}
-use Rattle.memory.specs.declared.access.Reach.the-variants.{Ready, Blocked}
+use Rattle.rows.specs.declared.reach.Failure.{Failure}
+use Rattle.rows.specs.declared.reach.Reach.{Reach}
+use Rattle.rows.specs.declared.reach.Reach.the-variants.{Ready, Blocked}
 use Rattle.answers.specs.Blame.{blame}
 use Rattle.answers.specs.declared.answer.Fault.{Fault}
 use Rattle.processor.specs.Prog.{Prog, done, stop, fetch, put, _>>=_, _>>_, load, touch, store, unless, onlyIf, Result, ended, broken, onReach, interp}

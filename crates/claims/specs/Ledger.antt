@@ -3,12 +3,12 @@ use Prim.Native.Nat.{ℕ, zero, suc, _+_, _*_, _%_, _<_}
 use mathlib.Core.Path.{_≡_}
 use mathlib.Core.Bool.{cond}
 use lib.Dec.{eqb}
-use Rattle.memory.specs.Access.{byteCount}
+use Rattle.rows.specs.Rows.{byteCount}
 use Rattle.pages.specs.Address.{wrapped}
 use Rattle.processor.specs.State.{enabled, widthOf}
 use Rattle.processor.specs.declared.state.State.{State}
 use Rattle.saveprevssp.specs.Saveprevssp.{carry}
-use Rattle.call.specs.Call.{pushed}
+use Rattle.targets.specs.Targets.{pushed}
 use Rattle.instructions.specs.Operation.{decoded}
 use Rattle.replay.specs.Run.{Input, listed, Run, after, built, replayed}
 use Rattle.instructions.specs.declared.instruction.Instruction.{Instruction}

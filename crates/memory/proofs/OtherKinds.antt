@@ -11,12 +11,13 @@ use Rattle.pages.specs.Pages.{Lookup}
 use Rattle.pages.specs.declared.address.Width.{Width}
 use Rattle.pages.specs.declared.pages.Spot.{Spot}
 use Rattle.pages.specs.declared.pages.Spot.the-variants.{Unlisted, At}
-use Rattle.memory.specs.Access.{kindNumber, byteCount, andThen, scan, onKind, listedByte, start, canonicalBytes, listedBytes, probe, written}
+use Rattle.rows.specs.Rows.{byteCount, andThen, scan, onKind, listedByte}
+use Rattle.memory.specs.Access.{kindNumber, start, canonicalBytes, listedBytes, probe, written}
 use Rattle.memory.specs.Extends.{cell, isListed, isKind, Places}
 use Rattle.memory.specs.declared.access.Access.{Access}
-use Rattle.memory.specs.declared.access.Failure.the-variants.{WrongKind}
-use Rattle.memory.specs.declared.access.Reach.{Reach}
-use Rattle.memory.specs.declared.access.Reach.the-variants.{Ready, Blocked}
+use Rattle.rows.specs.declared.reach.Failure.the-variants.{WrongKind}
+use Rattle.rows.specs.declared.reach.Reach.{Reach}
+use Rattle.rows.specs.declared.reach.Reach.the-variants.{Ready, Blocked}
 use Rattle.pages.proofs.Sums.{Wrapped, wrapped-plus, wrapped-start, one-on}
 use Rattle.memory.proofs.Cells.{reached}
 use Rattle.memory.proofs.Stored.{written-elsewhere}

@@ -11,7 +11,7 @@ use Rattle.memory.specs.Access.{lookupOf}
 use Rattle.memory.specs.Extends.{Cell, absent, present, cell, Extends, pageAt, HoldsPages, Untouched}
 use Rattle.pages.specs.declared.pages.Listing.the-variants.{Valid}
 use Rattle.memory.proofs.Cells.{held, cell-at}
-use Rattle.memory.proofs.Lookup.{behind}
+use Rattle.rows.proofs.Laws.{behind}
 use Rattle.memory.proofs.Valid.{Good, valid, listed, unlisted}
 
 -- a byte of a page, among the lent bytes

@@ -11,7 +11,7 @@ use borrow.Author.Tests.{leb-true, leb-false, le-leb, lt-leb}
 use borrow.Rule.Slice.PartMut.{midOf, putMid, put-same}
 use Rattle.pages.specs.Pages.{pageBytes}
 use Rattle.memory.specs.OnePage.{numberAt, putAt}
-use Rattle.memory.proofs.Parts.{pageStart, pageLength, whole}
+use Rattle.rows.proofs.Laws.{pageStart, pageLength, whole}
 
 -- what is left of a page, as the code has it
 pub room-left : (address n : ℕ) → leb n (pageBytes - address % pageBytes) ≡ leb (address % pageBytes + n) pageBytes

@@ -9,20 +9,22 @@ use lib.ListN.{length, getD}
 use lib.Dec.{eqb}
 use Rattle.pages.specs.Address.{plus, canonical}
 use Rattle.pages.specs.Pages.{Lookup}
-use Rattle.memory.specs.Access.{kindNumber, byteCount, andThen, scan, start, onKind, listedByte, canonicalBytes, listedBytes, probe}
-use Rattle.memory.specs.Access.{byteIn, number, value, loadedIf, load, putByte, write, written, storedIf, store}
+use Rattle.rows.specs.Rows.{byteCount, andThen, scan, onKind, listedByte}
+use Rattle.memory.specs.Access.{kindNumber, start, canonicalBytes, listedBytes, probe}
+use Rattle.rows.specs.Rows.{byteIn, number, putByte, write}
+use Rattle.memory.specs.Access.{value, loadedIf, load, written, storedIf, store}
 use Rattle.memory.specs.Extends.{cellIn, present, cell, Extends, Places}
 use Rattle.pages.specs.declared.address.Width.{Width}
 use Rattle.pages.specs.declared.pages.Spot.{Spot}
 use Rattle.pages.specs.declared.pages.Spot.the-variants.{Unlisted, At}
 use Rattle.memory.specs.declared.access.Access.{Access}
-use Rattle.memory.specs.declared.access.Failure.the-variants.{NotCanonical, WrongKind}
-use Rattle.memory.specs.declared.access.Reach.{Reach}
-use Rattle.memory.specs.declared.access.Reach.the-variants.{Ready, Blocked}
+use Rattle.rows.specs.declared.reach.Failure.the-variants.{NotCanonical, WrongKind}
+use Rattle.rows.specs.declared.reach.Reach.{Reach}
+use Rattle.rows.specs.declared.reach.Reach.the-variants.{Ready, Blocked}
 use Rattle.memory.specs.declared.load.Loaded.the-variants.{Value}
 use Rattle.memory.proofs.Answers.{load-done}
 use Rattle.memory.proofs.Cells.{reached, cell-at, cellByte, cell-byte, held, put-here, put-there, places-put}
-use Rattle.memory.proofs.Parts.{length-put}
+use Rattle.rows.proofs.Laws.{length-put}
 
 -- ---- trying
 

@@ -1,36 +1,26 @@
 -- An access: whether it can be done, the number that it loads, and the bytes that it leaves (docs/RULES.md, "Reaching a byte"). Assumes nothing.
-use Prim.Native.Nat.{ℕ, zero, suc, _+_, _*_, _/_, _%_}
-use mathlib.Core.Bool.{Bool, true, false, cond}
+use Prim.Native.Nat.{ℕ}
+use mathlib.Core.Bool.{cond}
 use mathlib.Core.List.{List}
-use lib.ListN.{length, getD, set}
-use lib.Dec.{eqb}
-use Rattle.pages.specs.Address.{wrapped, plus, canonical}
+use lib.ListN.{length}
+use Rattle.pages.specs.Address.{wrapped}
 use Rattle.pages.specs.Pages.{Lookup, spot}
-use Rattle.pages.specs.declared.address.Width.{Width}
-use Rattle.pages.specs.declared.pages.Spot.{Spot}
-use Rattle.pages.specs.declared.pages.Spot.the-variants.{Unlisted, At}
+use Rattle.rows.specs.Rows.{byteCount, andThen, scan, canonicalByte, listedByte, number, write}
+use Rattle.rows.specs.declared.reach.Failure.{Failure}
+use Rattle.rows.specs.declared.reach.Reach.{Reach}
+use Rattle.rows.specs.declared.reach.Reach.the-variants.{Ready, Blocked}
 use Rattle.memory.specs.declared.access.Kind.{Kind}
 use Rattle.memory.specs.declared.access.Kind.the-variants.{UserShadow, SupervisorShadow, Ordinary}
-use Rattle.memory.specs.declared.access.Size.{Size}
-use Rattle.memory.specs.declared.access.Size.the-variants.{Four, Eight}
 use Rattle.memory.specs.declared.access.Access.{Access}
-use Rattle.memory.specs.declared.access.Failure.{Failure}
-use Rattle.memory.specs.declared.access.Failure.the-variants.{NotCanonical, NotListed, WrongKind}
-use Rattle.memory.specs.declared.access.Reach.{Reach}
-use Rattle.memory.specs.declared.access.Reach.the-variants.{Ready, Blocked}
 use Rattle.memory.specs.declared.load.Loaded.{Loaded}
 use Rattle.memory.specs.declared.load.Loaded.the-variants.{Value, Blocked as Unloaded}
 
--- ---- kinds and sizes
+-- ---- kinds
 
 abbrev pub kindNumber : Kind → ℕ
 kindNumber UserShadow = 1
 kindNumber SupervisorShadow = 2
 kindNumber Ordinary = 3
-
-abbrev pub byteCount : Size → ℕ
-byteCount Four = 4
-byteCount Eight = 8
 
 -- ---- where addresses lead
 
@@ -39,31 +29,6 @@ unfoldable pub lookupOf : List ℕ → List ℕ → Lookup
 lookupOf pages bytes = spot pages (length bytes)
 
 -- ---- trying an access
-
-abbrev pub isReady : Reach → Bool
-isReady Ready = true
-isReady (Blocked failure) = false
-
--- the first of two findings, if that is a failure, else the second
-abbrev pub andThen : Reach → Reach → Reach
-andThen Ready next = next
-andThen (Blocked failure) next = Blocked failure
-
--- n bytes, counting up from an address: the first whose test fails decides
-unfoldable pub scan : (ℕ → Reach) → Width → ℕ → ℕ → Reach
-scan test w address zero = Ready
-scan test w address (suc n) = andThen (test address) (scan test w (plus w address 1) n)
-
-abbrev pub canonicalByte : ℕ → Reach
-canonicalByte address = cond (canonical address) Ready (Blocked NotCanonical)
-
--- whether a byte that leads here is on a page of the kind
-abbrev pub onKind : ℕ → ℕ → Spot → Reach
-onKind kind address Unlisted = Blocked (NotListed address)
-onKind kind address (At found place) = cond (eqb found kind) Ready (Blocked (WrongKind address))
-
-abbrev pub listedByte : Lookup → ℕ → ℕ → Reach
-listedByte look kind address = onKind kind address (look address)
 
 -- the address of an access's first byte
 abbrev pub start : Access → ℕ
@@ -83,16 +48,6 @@ probe look a = andThen (canonicalBytes a) (listedBytes look a)
 
 -- ---- loading
 
--- the byte at a place, 0 where there is none: an access that is ready has no such byte
-abbrev pub byteIn : List ℕ → Spot → ℕ
-byteIn bytes Unlisted = 0
-byteIn bytes (At kind place) = getD bytes place 0
-
--- the number that n bytes hold, counting up from an address, low byte first
-unfoldable pub number : Lookup → List ℕ → Width → ℕ → ℕ → ℕ
-number look bytes w address zero = 0
-number look bytes w address (suc n) = byteIn bytes (look address) + 256 * number look bytes w (plus w address 1) n
-
 -- what an access loads
 unfoldable pub value : Lookup → List ℕ → Access → ℕ
 value look bytes a = number look bytes (a .width) (start a) (byteCount (a .size))
@@ -106,15 +61,6 @@ unfoldable pub load : Lookup → List ℕ → Access → Loaded
 load look bytes a = loadedIf (probe look a) (value look bytes a)
 
 -- ---- storing
-
-abbrev pub putByte : Spot → ℕ → List ℕ → List ℕ
-putByte Unlisted byte bytes = bytes
-putByte (At kind place) byte bytes = set bytes place byte
-
--- the low n bytes of a value, counting up from an address, low byte first
-unfoldable pub write : Lookup → Width → ℕ → ℕ → ℕ → List ℕ → List ℕ
-write look w address zero v bytes = bytes
-write look w address (suc n) v bytes = write look w (plus w address 1) n (v / 256) (putByte (look address) (v % 256) bytes)
 
 -- the bytes that an access leaves once it is done
 unfoldable pub written : Lookup → Access → ℕ → List ℕ → List ℕ

@@ -8,13 +8,14 @@ use lib.ListN.{length, getD, set}
 use lib.Dec.{ltb, leb}
 use Rattle.pages.specs.Address.{canonical}
 use Rattle.pages.specs.Pages.{Lookup, pageBytes}
-use Rattle.memory.specs.Access.{kindNumber, byteCount, listedByte, start, probe}
+use Rattle.rows.specs.Rows.{byteCount, listedByte}
+use Rattle.memory.specs.Access.{kindNumber, start, probe}
 use Rattle.pages.specs.declared.pages.Spot.{Spot}
 use Rattle.pages.specs.declared.pages.Spot.the-variants.{Unlisted, At}
 use Rattle.memory.specs.declared.access.Access.{Access}
-use Rattle.memory.specs.declared.access.Failure.the-variants.{NotCanonical}
-use Rattle.memory.specs.declared.access.Reach.{Reach}
-use Rattle.memory.specs.declared.access.Reach.the-variants.{Ready, Blocked}
+use Rattle.rows.specs.declared.reach.Failure.the-variants.{NotCanonical}
+use Rattle.rows.specs.declared.reach.Reach.{Reach}
+use Rattle.rows.specs.declared.reach.Reach.the-variants.{Ready, Blocked}
 use Rattle.memory.specs.declared.one_page.Located.{Located}
 use Rattle.memory.specs.declared.one_page.Located.the-variants.{Within, Across, Blocked as Unreached}
 

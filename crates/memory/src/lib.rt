@@ -8,10 +8,7 @@ mod one_page;
 mod store;
 
 pub use access::Access;
-pub use access::Failure;
 pub use access::Kind;
-pub use access::Reach;
-pub use access::Size;
 pub use load::Loaded;
 pub use one_page::Located;
 pub use one_page::store_at;
@@ -22,3 +19,6 @@ pub use pages::Spot;
 pub use pages::Width;
 pub use pages::canonical;
 pub use pages::find;
+pub use rows::Failure;
+pub use rows::Reach;
+pub use rows::Size;

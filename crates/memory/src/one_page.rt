@@ -4,16 +4,17 @@ ghost use mathlib.Core.Path.{_≡_};
 ghost use Prim.Native.Nat.{_+_, _^_, _≤_, _<_};
 ghost use lib.ListN.{length, getD};
 ghost use Rattle.pages.specs.Pages.{spot};
-ghost use Rattle.memory.specs.Access.{lookupOf, byteCount, onKind};
+ghost use Rattle.rows.specs.Rows.{byteCount, onKind};
+ghost use Rattle.memory.specs.Access.{lookupOf};
 ghost use Rattle.memory.specs.OnePage.{onePage, allowed, locatedIf, within, located, firstLocated, OnLentPage, numberAt, putAt, storeAt};
 use crate::access::Access;
-use crate::access::Failure;
-use crate::access::Reach;
-use crate::access::Size;
 use pages::PAGE_BYTES;
 use pages::Spot;
 use pages::canonical;
 use pages::find;
+use rows::Failure;
+use rows::Reach;
+use rows::Size;
 
 // What trying an access finds, and where it lies.
 pub enum Located {

@@ -9,7 +9,8 @@ use Rattle.wrss.specs.Wrss.{wrss}
 use Rattle.wruss.specs.Wruss.{wruss}
 use Rattle.rstorssp.specs.Rstorssp.{rstorssp}
 use Rattle.saveprevssp.specs.Saveprevssp.{saveprevssp}
-use Rattle.call.specs.Call.{relative, displaced, call}
+use Rattle.targets.specs.Targets.{relative, displaced}
+use Rattle.call.specs.Call.{call}
 use Rattle.ret.specs.Ret.{ret}
 use Rattle.instructions.specs.Operation.{decoded}
 use Rattle.instructions.specs.Instruction.{wellFormed}

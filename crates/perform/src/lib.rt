@@ -22,7 +22,7 @@ fn call_target(target: Target, step: Instruction, state: State) -> u64
     ensures { λ r. ⌜ r ≡ targetOf target step state ⌝ }
 {
     match target {
-        Target::Relative => call::relative(state, step.a, step.length),
+        Target::Relative => targets::relative(state, step.a, step.length),
         Target::Absolute => step.a,
     }
 }
@@ -32,7 +32,7 @@ fn framed(target: Target, step: Instruction) -> bool
     ensures { λ r. ⌜ r ≡ framedOf target step ⌝ }
 {
     match target {
-        Target::Relative => call::displaced(step.a),
+        Target::Relative => targets::displaced(step.a),
         Target::Absolute => true,
     }
 }

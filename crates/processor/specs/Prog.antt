@@ -6,9 +6,9 @@ use mathlib.Core.List.{List}
 use Rattle.memory.specs.Access.{probe, value, written}
 use Rattle.pages.specs.Pages.{Lookup}
 use Rattle.memory.specs.declared.access.Access.{Access}
-use Rattle.memory.specs.declared.access.Failure.{Failure}
-use Rattle.memory.specs.declared.access.Reach.{Reach}
-use Rattle.memory.specs.declared.access.Reach.the-variants.{Ready, Blocked}
+use Rattle.rows.specs.declared.reach.Failure.{Failure}
+use Rattle.rows.specs.declared.reach.Reach.{Reach}
+use Rattle.rows.specs.declared.reach.Reach.the-variants.{Ready, Blocked}
 use Rattle.answers.specs.Blame.{blame}
 use Rattle.answers.specs.declared.answer.Answer.{Answer}
 use Rattle.answers.specs.declared.answer.Answer.the-variants.{Completed, Faulted}

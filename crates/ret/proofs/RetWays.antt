@@ -5,9 +5,10 @@ use mathlib.Core.Bool.{true, false, not}
 use mathlib.Core.List.{List}
 use lib.Dec.{eqb}
 use borrow.Author.Tests.{eq-eqb, ne-eqb}
-use Rattle.memory.specs.Access.{byteCount, load as loadAt}
+use Rattle.rows.specs.Rows.{byteCount}
+use Rattle.memory.specs.Access.{load as loadAt}
 use Rattle.pages.specs.Pages.{Lookup}
-use Rattle.memory.specs.declared.access.Failure.{Failure}
+use Rattle.rows.specs.declared.reach.Failure.{Failure}
 use Rattle.memory.specs.declared.load.Loaded.the-variants.{Value, Blocked as Unloaded}
 use Rattle.answers.specs.Answer.{ss, gp, cpNearRet}
 use Rattle.processor.specs.State.{enabled, plus}
@@ -19,7 +20,7 @@ use Rattle.processor.specs.Prog.{Prog, done, _>>=_, _>>_, unless, ended, broken
 use Rattle.answers.specs.declared.answer.Fault.{Fault}
 use Rattle.processor.specs.declared.state.State.{State}
 use Rattle.processor.proofs.Laws.{passed, halted, loaded, not-loaded, continues, breaks, completes, faults}
-use Rattle.call.specs.Call.{inCode, pushed, runsPast}
+use Rattle.targets.specs.Targets.{inCode, pushed, runsPast}
 use Rattle.ret.specs.Ret.{popFrame, newSsp, ret}
 
 -- ---- the shadow stack

@@ -2,15 +2,15 @@
 use Prim.Native.Nat.{ℕ}
 use mathlib.Core.Bool.{false, not, cond}
 use lib.Dec.{eqb}
-use Rattle.memory.specs.Access.{byteCount}
-use Rattle.memory.specs.declared.access.Size.{Size}
+use Rattle.rows.specs.Rows.{byteCount}
+use Rattle.rows.specs.declared.size.Size.{Size}
 use Rattle.answers.specs.Answer.{ss, gp, cpNearRet}
 use Rattle.processor.specs.State.{enabled, plus}
 use Rattle.processor.specs.Layout.{withIp, withSp, withSsp}
 use Rattle.processor.specs.Accesses.{shadow, ordinary}
 use Rattle.processor.specs.Prog.{Prog, done, _>>=_, _>>_, load, unless}
 use Rattle.processor.specs.declared.state.State.{State}
-use Rattle.call.specs.Call.{inCode, pushed, runsPast}
+use Rattle.targets.specs.Targets.{inCode, pushed, runsPast}
 
 -- the shadow stack's return address must be the one popped from the ordinary stack; SSP moves past it
 unfoldable pub popFrame : State → ℕ → Prog ℕ

@@ -5,14 +5,14 @@ ghost use Rattle.processor.specs.Prog.{interp, operate};
 ghost use Rattle.processor.specs.Outcomes.{stepOf};
 ghost use Rattle.processor.specs.Popped.{resultOf};
 ghost use Rattle.ret.specs.Ret.{newSsp, ret};
-use call::in_code;
-use call::pushed;
-use call::runs_past;
 use memory::Loaded;
 use processor::Outcome;
 use processor::Popped;
 use processor::State;
 use processor::Vector;
+use targets::in_code;
+use targets::pushed;
+use targets::runs_past;
 
 // Pops the shadow stack where it is enabled; what is popped must be the target.
 fn new_ssp(state: State, pages: &[u64], bytes: &[u8], target: u64) -> Popped

@@ -7,14 +7,15 @@ use lib.ListN.{getD}
 use lib.Dec.{eqb}
 use Rattle.pages.specs.Address.{modulus}
 use Rattle.pages.specs.Pages.{Lookup}
-use Rattle.memory.specs.Access.{kindNumber, byteCount}
+use Rattle.rows.specs.Rows.{byteCount}
+use Rattle.memory.specs.Access.{kindNumber}
 use Rattle.pages.specs.declared.address.Width.{Width}
 use Rattle.memory.specs.declared.access.Kind.{Kind}
-use Rattle.memory.specs.declared.access.Size.{Size}
+use Rattle.rows.specs.declared.size.Size.{Size}
 use Rattle.memory.specs.declared.access.Access.{Access}
-use Rattle.memory.specs.declared.access.Failure.the-variants.{NotListed}
-use Rattle.memory.specs.declared.access.Reach.{Reach}
-use Rattle.memory.specs.declared.access.Reach.the-variants.{Ready, Blocked}
+use Rattle.rows.specs.declared.reach.Failure.the-variants.{NotListed}
+use Rattle.rows.specs.declared.reach.Reach.{Reach}
+use Rattle.rows.specs.declared.reach.Reach.the-variants.{Ready, Blocked}
 use Rattle.pages.specs.declared.pages.Spot.{Spot}
 use Rattle.pages.specs.declared.pages.Spot.the-variants.{Unlisted, At}
 

@@ -8,7 +8,7 @@ ghost use mathlib.Core.Path.{_≡_};
 ghost use Prim.Native.Nat.{_≤_};
 ghost use lib.ListN.{length, take};
 ghost use Rattle.pages.specs.Pages.{spot};
-ghost use Rattle.memory.specs.Access.{scan, putByte, write};
+ghost use Rattle.rows.specs.Rows.{scan, putByte, write};
 ghost use Rattle.pages.specs.declared.address.Width.the-variants.{Bits64};
 ghost use Rattle.script.specs.Line.{Numbers};
 ghost use Rattle.script.specs.Access.{IsKind, IsWidth, IsSize, IsAccess, anyByte};

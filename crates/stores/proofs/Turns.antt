@@ -14,9 +14,9 @@ use Rattle.pages.specs.Pages.{Lookup}
 use Rattle.memory.specs.Access.{lookupOf, probe, written}
 use Rattle.memory.specs.OnePage.{located}
 use Rattle.memory.specs.declared.access.Access.{Access}
-use Rattle.memory.specs.declared.access.Failure.{Failure}
-use Rattle.memory.specs.declared.access.Reach.{Reach}
-use Rattle.memory.specs.declared.access.Reach.the-variants.{Ready as Reached, Blocked}
+use Rattle.rows.specs.declared.reach.Failure.{Failure}
+use Rattle.rows.specs.declared.reach.Reach.{Reach}
+use Rattle.rows.specs.declared.reach.Reach.the-variants.{Ready as Reached, Blocked}
 use Rattle.memory.specs.declared.one_page.Located.the-variants.{Within, Across, Blocked as Unreached}
 use Rattle.memory.proofs.Laws.{told, lookup-kept, length-written}
 use Rattle.stores.specs.Stores.{thenTry, tryAll, writtenAll}

@@ -5,7 +5,7 @@ use Rattle.pages.specs.Pages.{Lookup}
 use Rattle.memory.specs.Access.{probe}
 use Rattle.memory.specs.OnePage.{located}
 use Rattle.memory.specs.declared.access.Access.{Access}
-use Rattle.memory.specs.declared.access.Reach.the-variants.{Ready as Reached}
+use Rattle.rows.specs.declared.reach.Reach.the-variants.{Ready as Reached}
 use Rattle.memory.specs.declared.one_page.Located.the-variants.{Within}
 
 -- stands where no place was noted

@@ -1,6 +1,7 @@
 -- The worked cases, by computation: every definition on the way is opened, and both sides come to the same lists. Assumes nothing.
 use mathlib.Core.Path.{refl}
-use Rattle.memory.specs.Access.{lookupOf, scan, canonicalBytes, listedBytes, probe, number, value, write, written}
+use Rattle.rows.specs.Rows.{scan, number, write}
+use Rattle.memory.specs.Access.{lookupOf, canonicalBytes, listedBytes, probe, value, written}
 use Rattle.pages.specs.Address.{wrapped, plus, minus, canonical}
 use Rattle.pages.specs.Pages.{pageOf, kindOf, wrongLength, badKind, badAddress, onPage, anyEntry, repeated, listing, inPage, spotFrom, spot}
 use Rattle.processor.specs.Prog.{_>>=_, interp, operate}
@@ -11,7 +12,8 @@ use Rattle.wrss.specs.Wrss.{wrss}
 use Rattle.wruss.specs.Wruss.{recognised, wruss}
 use Rattle.rstorssp.specs.Rstorssp.{home, goodToken, restoredFlags, rstorssp}
 use Rattle.saveprevssp.specs.Saveprevssp.{popHole, newTop, savedToken, leaveToken, saveprevssp}
-use Rattle.call.specs.Call.{displacement, relative, displaced, inCode, runsPast, pushesFrame, call}
+use Rattle.targets.specs.Targets.{displacement, relative, displaced, inCode, runsPast}
+use Rattle.call.specs.Call.{pushesFrame, call}
 use Rattle.ret.specs.Ret.{popFrame, newSsp, ret}
 use Rattle.instructions.specs.Operation.{decoded}
 use Rattle.instructions.specs.Instruction.{instructionAt, lengthFits, narrow, modeFits, fits, wellFormed}

@@ -2,8 +2,8 @@
 use Prim.Native.Nat.{ℕ, _%_}
 use mathlib.Core.Bool.{Bool, true}
 use lib.Dec.{eqb}
-use Rattle.memory.specs.Access.{byteCount}
-use Rattle.memory.specs.declared.access.Size.{Size}
+use Rattle.rows.specs.Rows.{byteCount}
+use Rattle.rows.specs.declared.size.Size.{Size}
 use Rattle.answers.specs.Answer.{ud, gp}
 use Rattle.processor.specs.State.{usable, next}
 use Rattle.processor.specs.Layout.{withIp}

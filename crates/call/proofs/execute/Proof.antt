@@ -8,7 +8,7 @@ use Rattle.pages.specs.Pages.{Lookup}
 use Rattle.memory.specs.Access.{lookupOf}
 use Rattle.stores.specs.Stores.{tryAll, writtenAll, leftBy}
 use Rattle.stores.specs.declared.Slot.{Slot}
-use Rattle.call.specs.Call.{inCode, runsPast}
+use Rattle.targets.specs.Targets.{inCode, runsPast}
 use Rattle.call.proofs.CallWays.{newSp, pushes, outside, stack-end, not-pushed, pushed-all}
 use Rattle.call.proofs.execute.Statement.{statement}
 use Rattle.call.proofs.execute.Tie as tie

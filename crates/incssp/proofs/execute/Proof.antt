@@ -5,7 +5,8 @@ use mathlib.Core.Bool.{true, false}
 use native.Mathlib.Omega.{arith}
 use borrow.Author.Tests.{not-true, not-false}
 use borrow.Author.Needs.{needs}
-use Rattle.memory.specs.Access.{lookupOf, byteCount, load as loadAt}
+use Rattle.rows.specs.Rows.{byteCount}
+use Rattle.memory.specs.Access.{lookupOf, load as loadAt}
 use Rattle.processor.specs.State.{usable, plus}
 use Rattle.processor.specs.Accesses.{shadow}
 use Rattle.processor.proofs.Laws.{product}

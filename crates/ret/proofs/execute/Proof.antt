@@ -11,7 +11,7 @@ use Rattle.processor.specs.Accesses.{ordinary}
 use Rattle.processor.specs.Prog.{Result, interp}
 use Rattle.processor.specs.Popped.{resultOf}
 use Rattle.processor.specs.declared.popped.Popped.{Popped}
-use Rattle.call.specs.Call.{pushed, runsPast}
+use Rattle.targets.specs.Targets.{pushed, runsPast}
 use Rattle.ret.specs.Ret.{newSsp}
 use Rattle.ret.proofs.RetWays.{stack-end, pop-blocked, frame-failed, outside, returned}
 use Rattle.ret.proofs.execute.Statement.{statement}

@@ -7,7 +7,7 @@ use Rattle.memory.specs.Access.{lookupOf, load as loadAt}
 use Rattle.memory.specs.declared.access.Access.{Access}
 use Rattle.processor.specs.State.{enabled}
 use Rattle.processor.specs.Accesses.{shadow}
-use Rattle.call.specs.Call.{pushed}
+use Rattle.targets.specs.Targets.{pushed}
 use Rattle.ret.proofs.RetWays.{not-asked, frame-blocked, frame-differs, frame-popped}
 use Rattle.ret.proofs.new_ssp.Statement.{statement}
 use Rattle.ret.proofs.new_ssp.Tie as tie

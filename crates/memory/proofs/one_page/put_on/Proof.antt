@@ -1,7 +1,7 @@
 -- `put_on` meets its contract: four bytes, or twice four. Assumes nothing.
 use native.Mathlib.Omega.{arith}
 use borrow.Author.Needs.{needs}
-use Rattle.memory.proofs.Answers.{at-least-four}
+use Rattle.rows.proofs.Laws.{at-least-four}
 use Rattle.memory.proofs.PageParts.{length-put-at, put-eight}
 use Rattle.memory.proofs.one_page.put_on.Statement.{statement}
 use Rattle.memory.proofs.one_page.put_on.Tie as tie

@@ -2,7 +2,7 @@
 use mathlib.Core.Path.{sym, _∙_}
 use borrow.Author.Needs.{needs}
 use Rattle.memory.specs.Access.{lookupOf, load, value}
-use Rattle.memory.proofs.Answers.{at-most-eight, load-failed}
+use Rattle.memory.proofs.Answers.{load-failed}
 use Rattle.memory.proofs.OnePage.{told, on-lent-page, load-placed}
 use Rattle.memory.proofs.access.Access.load.Statement.{statement}
 use Rattle.memory.proofs.access.Access.load.Tie as tie
@@ -20,13 +20,8 @@ load-within-requires c κs = on-lent-page _ _ _ _ (told _ _ _ (sym (c .before .p
 enum-told : tie.Need-enum-told
 enum-told c = search needs
 
-bytes-requires : tie.Need-bytes-requires
-bytes-requires c κs = search needs
-
 number-requires : tie.Need-number-requires
-number-requires c κs =
-    let args = c .before .before .before .before .before .before .args in
-    rw (c .bytes .ensures) (at-most-eight (args .self .size))
+number-requires c κs = search needs
 
 enum-known-failure : tie.Need-enum-known-failure
 enum-known-failure c = search needs
@@ -43,11 +38,10 @@ returns c =
 returns-2 : tie.Need-returns-2
 unfolding lookupOf load value
 returns-2 c =
-    let after-enum-told = c .before .before in
+    let after-enum-told = c .before in
     rw (
       told _ _ _ (sym (after-enum-told .enum-told .given .1) ∙ after-enum-told .before .before .locate .ensures),
       c .number .ensures,
-      c .before .bytes .ensures,
     )
 
 returns-3 : tie.Need-returns-3
@@ -62,7 +56,6 @@ load-spec =
     enum-known-place
     load-within-requires
     enum-told
-    bytes-requires
     number-requires
     enum-known-failure
     returns

@@ -2,7 +2,8 @@
 use mathlib.Core.Path.{_≡_, sym, _∙_}
 use borrow.Author.Needs.{needs}
 use lib.ListN.{length}
-use Rattle.memory.specs.Access.{lookupOf, byteCount, start}
+use Rattle.rows.specs.Rows.{byteCount}
+use Rattle.memory.specs.Access.{lookupOf, start}
 use Rattle.memory.specs.OnePage.{onePage}
 use Rattle.memory.specs.declared.access.Access.{Access}
 use Rattle.memory.proofs.OnePage.{first-byte-decides, first-located, each-located}

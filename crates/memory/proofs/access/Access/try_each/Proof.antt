@@ -3,7 +3,7 @@ use mathlib.Core.Path.{sym, _∙_, ap}
 use mathlib.Core.Bool.{not}
 use borrow.Author.Needs.{needs}
 use Rattle.memory.specs.Access.{probe, listedBytes}
-use Rattle.memory.proofs.Answers.{blocked-first, ready-next}
+use Rattle.rows.proofs.Laws.{blocked-first, ready-next}
 use Rattle.memory.proofs.access.Access.try_each.Statement.{statement}
 use Rattle.memory.proofs.access.Access.try_each.Tie as tie
 
