@@ -8,7 +8,6 @@ use Rattle.answers.specs.Answer.{vectorNumber, refusalNumber, reportOf}
 use Rattle.answers.specs.declared.answer.Answer.{Answer}
 use Rattle.answers.specs.declared.answer.Answer.the-variants.{Completed, Refused, Faulted}
 use Rattle.answers.specs.declared.answer.Report.{Report}
-use Rattle.processor.specs.declared.state.State.{State}
 use Rattle.processor.specs.Layout.{fields, stateOf, wordsOf}
 use Rattle.replay.specs.Run.{Run, inputOf, checkBy, replayed}
 use Rattle.replay.specs.declared.steps.Tested.{Tested}

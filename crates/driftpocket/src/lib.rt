@@ -4,7 +4,7 @@ ghost use Prim.Native.Nat.{_≤_};
 ghost use mathlib.Core.Bool.{false};
 ghost use mathlib.Core.Path.{_≡_};
 ghost use lib.ListN.{length};
-ghost use Rattle.driftpocket.specs.Crossing.{reportWords, over, numberOf as numberFor, testedAs, answered, crossed};
+ghost use Rattle.driftpocket.specs.Crossing.{reportWords, over, numberOf as numberFor, testedAs, crossed};
 ghost use Rattle.processor.specs.Layout.{fields, wordsOf};
 ghost use Rattle.answers.specs.Answer.{reportOf};
 ghost use Rattle.replay.specs.Run.{checkBy};

@@ -15,9 +15,15 @@ use Rattle.instructions.specs.declared.operation.Target.the-variants.{Re
 use Rattle.instructions.specs.declared.operation.Release.{Release}
 use Rattle.instructions.specs.declared.operation.Release.the-variants.{Plain, Counted}
 
+-- how many words an instruction has
+abbrev pub instructionWords : ℕ
+instructionWords = 4
+
 -- the k-th instruction of a list of words, counted from 0
 unfoldable pub instructionAt : List ℕ → ℕ → Instruction
-instructionAt words k = record { code = getD words (4 * k) 0; length = getD words (4 * k + 1) 0; a = getD words (4 * k + 2) 0; b = getD words (4 * k + 3) 0 }
+instructionAt words k =
+    let first : ℕ = instructionWords * k in
+    record { code = getD words first 0; length = getD words (first + 1) 0; a = getD words (first + 2) 0; b = getD words (first + 3) 0 }
 
 -- the words of one instruction, which is then the whole list
 abbrev pub alone : Instruction → List ℕ

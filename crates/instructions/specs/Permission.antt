@@ -1,12 +1,13 @@
 -- The permission bits of WRSS, WR_SHSTK_EN: bit 1 of U_CET and of S_CET. No operation is shown them: WRSS is told whether it is
 -- permitted, and all that an operation reads is the state without them. So they alter nothing else. Assumes nothing.
-use Prim.Native.Nat.{ℕ, _+_, _-_, _*_, _/_, _%_}
+use Prim.Native.Nat.{ℕ, _+_, _-_, _*_}
 use Rattle.processor.specs.Layout.{withCet}
+use Rattle.processor.specs.State.{writeEnable}
 use Rattle.processor.specs.declared.state.State.{State}
 
--- bit 1 of a CET register, as 0 or 2
+-- what that bit adds to a CET register: 0 or 2
 unfoldable pub writeBit : ℕ → ℕ
-writeBit register = register / 2 % 2 * 2
+writeBit register = writeEnable register * 2
 
 -- a CET register without it
 unfoldable pub withoutWrite : ℕ → ℕ

@@ -1,13 +1,9 @@
 -- What trying an access decides. Assumes nothing.
-use Prim.Native.Nat.{ℕ, _≤_}
+use Prim.Native.Nat.{ℕ}
 use mathlib.Core.Path.{_≡_, refl, ap}
-use mathlib.Core.Bool.{true, false, not, true≢false, false≢true}
 use mathlib.Core.List.{List}
 use native.Mathlib.Omega.{arith}
-use Rattle.rows.specs.Rows.{byteCount, isReady, andThen}
-use Rattle.memory.specs.Access.{probe, value, loadedIf, load, written, storedIf, store}
-use Rattle.rows.specs.declared.size.Size.{Size}
-use Rattle.rows.specs.declared.size.Size.the-variants.{Four, Eight}
+use Rattle.memory.specs.Access.{probe, value, loadedIf, load, written, store}
 use Rattle.pages.specs.Pages.{Lookup}
 use Rattle.memory.specs.declared.access.Access.{Access}
 use Rattle.rows.specs.declared.reach.Failure.{Failure}

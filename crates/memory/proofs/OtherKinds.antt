@@ -5,7 +5,6 @@ use mathlib.Core.Bool.{Bool, true, false, cond, true≢false}
 use mathlib.Core.List.{List}
 use native.Mathlib.Omega.{arith}
 use lib.ListN.{length}
-use lib.Dec.{eqb}
 use Rattle.pages.specs.Address.{plus}
 use Rattle.pages.specs.Pages.{Lookup}
 use Rattle.pages.specs.declared.address.Width.{Width}

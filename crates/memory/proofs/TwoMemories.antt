@@ -7,7 +7,7 @@ use native.Mathlib.Decide.{ℕ-discrete}
 use native.Mathlib.Omega.{arith}
 use lib.ListN.{length, getD}
 use lib.Dec.{eqb}
-use Rattle.pages.specs.Address.{plus, canonical}
+use Rattle.pages.specs.Address.{plus}
 use Rattle.pages.specs.Pages.{Lookup}
 use Rattle.rows.specs.Rows.{byteCount, andThen, scan, onKind, listedByte}
 use Rattle.memory.specs.Access.{kindNumber, start, canonicalBytes, listedBytes, probe}

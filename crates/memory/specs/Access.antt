@@ -4,9 +4,8 @@ use mathlib.Core.Bool.{cond}
 use mathlib.Core.List.{List}
 use lib.ListN.{length}
 use Rattle.pages.specs.Address.{wrapped}
-use Rattle.pages.specs.Pages.{Lookup, spot}
+use Rattle.pages.specs.Pages.{Lookup, userShadow, supervisorShadow, ordinary, spot}
 use Rattle.rows.specs.Rows.{byteCount, andThen, scan, canonicalByte, listedByte, number, write}
-use Rattle.rows.specs.declared.reach.Failure.{Failure}
 use Rattle.rows.specs.declared.reach.Reach.{Reach}
 use Rattle.rows.specs.declared.reach.Reach.the-variants.{Ready, Blocked}
 use Rattle.memory.specs.declared.access.Kind.{Kind}
@@ -18,9 +17,9 @@ use Rattle.memory.specs.declared.load.Loaded.the-variants.{Value, Blocke
 -- ---- kinds
 
 abbrev pub kindNumber : Kind → ℕ
-kindNumber UserShadow = 1
-kindNumber SupervisorShadow = 2
-kindNumber Ordinary = 3
+kindNumber UserShadow = userShadow
+kindNumber SupervisorShadow = supervisorShadow
+kindNumber Ordinary = ordinary
 
 -- ---- where addresses lead
 

@@ -1,6 +1,6 @@
 -- The turns of the loops: what each definition that recurs gives from a place on, in the terms of the code. Assumes nothing.
-use Prim.Native.Nat.{ℕ, suc, _+_, _-_, _*_, _/_, _%_, _<_, _≤_}
-use mathlib.Core.Path.{_≡_, refl, sym, _∙_, ap}
+use Prim.Native.Nat.{ℕ, _+_, _-_, _<_, _≤_}
+use mathlib.Core.Path.{_≡_, sym, _∙_, ap}
 use mathlib.Core.Bool.{Bool, true, false, cond, _||_}
 use mathlib.Core.List.{List}
 use native.Mathlib.Numerals.{add-one}
@@ -8,7 +8,7 @@ use native.Mathlib.Omega.{arith}
 use lib.ListN.{length, getD, take, drop, length-drop, drop-of-length-le}
 use lib.Seq.{drop-cons, take-all}
 use borrow.Author.Tests.{eq-eqb, ne-eqb}
-use Rattle.pages.specs.Pages.{Lookup, pageOf, onPage, anyEntry, repeated, inPage, spotFrom}
+use Rattle.pages.specs.Pages.{pageOf, onPage, anyEntry, repeated, inPage, spotFrom}
 use Rattle.pages.specs.declared.pages.Spot.the-variants.{Unlisted}
 
 -- ---- an entry and a page

@@ -1,6 +1,6 @@
 -- The page list: its entries, when it is refused, and what an address leads to (docs/RULES.md, "Pages", "Refusals"). Assumes nothing.
-use Prim.Native.Nat.{ℕ, zero, suc, _+_, _*_, _/_, _%_}
-use mathlib.Core.Bool.{Bool, true, false, not, cond, _||_}
+use Prim.Native.Nat.{ℕ, suc, _+_, _*_, _/_, _%_}
+use mathlib.Core.Bool.{Bool, false, not, cond, _||_}
 use mathlib.Core.List.{List, [], _∷_}
 use lib.ListN.{length}
 use lib.Dec.{eqb, ltb}
@@ -37,9 +37,19 @@ kindOf entry = entry % pageBytes
 unfoldable pub wrongLength : ℕ → ℕ → Bool
 wrongLength entries lent = ltb pageLimit entries || not (eqb lent (pageBytes * entries))
 
--- refusal 2: the kind is not 1 (user shadow), 2 (supervisor shadow) or 3 (ordinary)
+-- the kinds of page: user shadow, supervisor shadow, ordinary
+abbrev pub userShadow : ℕ
+userShadow = 1
+
+abbrev pub supervisorShadow : ℕ
+supervisorShadow = 2
+
+abbrev pub ordinary : ℕ
+ordinary = 3
+
+-- refusal 2: the kind is none of the three
 unfoldable pub badKind : ℕ → Bool
-badKind entry = not (eqb (kindOf entry) 1 || eqb (kindOf entry) 2 || eqb (kindOf entry) 3)
+badKind entry = not (eqb (kindOf entry) userShadow || eqb (kindOf entry) supervisorShadow || eqb (kindOf entry) ordinary)
 
 -- refusal 3: the page address is not canonical
 unfoldable pub badAddress : ℕ → Bool

@@ -1,12 +1,11 @@
 -- The access language: an operation is a little program of loads and stores, and never looks at memory by itself. The interpreter
 -- says once, for all operations, that the first access that cannot be done decides and that then nothing is stored. Assumes nothing.
 use Prim.Native.Nat.{ℕ}
-use mathlib.Core.Bool.{Bool, true, false, cond}
+use mathlib.Core.Bool.{Bool, cond}
 use mathlib.Core.List.{List}
 use Rattle.memory.specs.Access.{probe, value, written}
 use Rattle.pages.specs.Pages.{Lookup}
 use Rattle.memory.specs.declared.access.Access.{Access}
-use Rattle.rows.specs.declared.reach.Failure.{Failure}
 use Rattle.rows.specs.declared.reach.Reach.{Reach}
 use Rattle.rows.specs.declared.reach.Reach.the-variants.{Ready, Blocked}
 use Rattle.answers.specs.Blame.{blame}

@@ -1,6 +1,6 @@
 -- What the rules read off a state (docs/RULES.md, "State"). Assumes nothing.
 use Prim.Native.Nat.{ℕ, _/_, _%_, _^_}
-use mathlib.Core.Bool.{Bool, true, false, not, cond, _&&_, _||_}
+use mathlib.Core.Bool.{Bool, true, not, cond, _&&_, _||_}
 use lib.Dec.{eqb, ltb, leb}
 use Rattle.pages.specs.Address.{plus as plusAt, minus as minusAt}
 use Rattle.pages.specs.declared.address.Width.{Width}
@@ -40,9 +40,16 @@ userMode s = eqb (s .cpl) 3
 abbrev pub register : State → ℕ
 register s = cond (userMode s) (s .ucet) (s .scet)
 
+-- SH_STK_EN and WR_SHSTK_EN: bits 0 and 1 of a CET register
+abbrev pub shadowEnable : ℕ → ℕ
+shadowEnable register = register % 2
+
+abbrev pub writeEnable : ℕ → ℕ
+writeEnable register = register / 2 % 2
+
 -- the rules' "enabled": CR4.CET and SH_STK_EN of this CPL
 unfoldable pub enabled : State → Bool
-enabled s = eqb (s .cet) 1 && eqb (register s % 2) 1
+enabled s = eqb (s .cet) 1 && eqb (shadowEnable (register s)) 1
 
 -- in mode 0 no shadow stack operation is recognised
 unfoldable pub usable : State → Bool
@@ -50,7 +57,7 @@ usable s = not (eqb (s .mode) 0) && enabled s
 
 -- WR_SHSTK_EN of this CPL
 unfoldable pub permitted : State → Bool
-permitted s = eqb (register s / 2 % 2) 1
+permitted s = eqb (writeEnable (register s)) 1
 
 -- ---- refusal 5, in parts
 

@@ -1,5 +1,5 @@
 -- Whole runs: what is tested before any step, the steps, and where they end (docs/RULES.md, "Refusals and answers"). Assumes nothing.
-use Prim.Native.Nat.{ℕ, zero, suc, _*_, _/_, _%_}
+use Prim.Native.Nat.{ℕ, zero, suc, _/_, _%_}
 use mathlib.Core.Bool.{Bool, not, cond, _||_}
 use mathlib.Core.List.{List}
 use lib.ListN.{length}
@@ -14,7 +14,7 @@ use Rattle.answers.specs.declared.answer.Answer.{Answer}
 use Rattle.answers.specs.declared.answer.Answer.the-variants.{Completed, Refused, Faulted}
 use Rattle.answers.specs.declared.answer.Refusal.the-variants.{Length, Kind, Address, Repeat, State as BadState, Words}
 use Rattle.processor.specs.declared.state.State.{State}
-use Rattle.instructions.specs.Instruction.{instructionAt}
+use Rattle.instructions.specs.Instruction.{instructionWords, instructionAt}
 use Rattle.perform.specs.Codes.{codes}
 use Rattle.perform.specs.Exec.{InstructionSet, refused, perform}
 use Rattle.instructions.specs.declared.instruction.Instruction.{Instruction}
@@ -44,7 +44,7 @@ listed given = instructionAt (given .words)
 
 -- how many instructions it lists
 abbrev pub listedCount : Input → ℕ
-listedCount given = length (given .words) / 4
+listedCount given = length (given .words) / instructionWords
 
 -- the same but for the state, but for the pages and their bytes, and but for the words
 abbrev pub withState : Input → State → Input
@@ -64,7 +64,7 @@ instructionLimit = 1024
 
 -- refusal 7: not four words to each instruction, or too many
 unfoldable pub badWords : ℕ → Bool
-badWords words = not (eqb (words % 4) 0) || ltb instructionLimit (words / 4)
+badWords words = not (eqb (words % instructionWords) 0) || ltb instructionLimit (words / instructionWords)
 
 -- refusals 1 to 4 of the page list, then what is tested after them
 abbrev pub afterPages : Listing → Tested → Tested

@@ -1,5 +1,5 @@
 -- `Operation::words_fit` meets its contract, operation by operation. Assumes nothing.
-use mathlib.Core.Path.{_≡_, sym, _∙_}
+use mathlib.Core.Path.{sym, _∙_}
 use borrow.Author.Tests.{eq-eqb, ne-eqb}
 use borrow.Author.Needs.{needs}
 use Rattle.instructions.proofs.operation.Operation.words_fit.Statement.{statement}

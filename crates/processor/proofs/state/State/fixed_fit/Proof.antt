@@ -1,6 +1,5 @@
 -- `State::fixed_fit` meets its contract: the tests are those of the definition, in its order. Assumes nothing.
 use borrow.Author.Tests.{le-leb, lt-leb}
-use borrow.Author.Needs.{needs}
 use Rattle.processor.specs.State.{fixedFit}
 use Rattle.processor.proofs.state.State.fixed_fit.Statement.{statement}
 use Rattle.processor.proofs.state.State.fixed_fit.Tie as tie
