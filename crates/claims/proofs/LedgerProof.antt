@@ -27,7 +27,7 @@ use Rattle.instructions.specs.declared.instruction.Instruction.{Instruction}
 use Rattle.instructions.specs.declared.operation.Operation.{Operation}
 use Rattle.instructions.specs.declared.operation.Operation.the-variants.{Incssp, Rstorssp, Saveprevssp, Wrss, Call, Ret, Wruss, Unknown}
 use Rattle.instructions.specs.declared.operation.Target.the-variants.{Relative, Absolute}
-use Rattle.claims.specs.Ledger.{frameBytes, popped, pushedBy, sumOf, OneMode, LedgerInOneMode, Ledger}
+use Rattle.claims.specs.Ledger.{frameBytes, popped, pushedBy, sumOf, OneMode, LedgerInOneMode, KeepsOneMode, Ledger}
 use Rattle.claims.proofs.CallWalk.{belowSsp}
 use Rattle.claims.proofs.RetWalk.{pastFrame}
 use Rattle.claims.proofs.SaveprevsspWalk.{pastToken}
@@ -202,12 +202,12 @@ ledger-in-one-mode given one other =
     one-more given j (opening given (suc j)) mode before (its-turn given (lookOf given) (listed given j) (opening given j) _ done (other j counted) same))
 
 -- today no instruction changes the mode
-one-mode : (given : Input) → OneMode given
+pub keeps-one-mode : KeepsOneMode
 unfolding afterFrom
-one-mode given j counted =
+keeps-one-mode given j counted =
     kept-after (built given) given (λ k t. t .mode ≡ given .state .mode) (suc j) refl
     (λ k below before done. mode-stays given (lookOf given) (listed given k) _ _ done ∙ before)
     (λ k below. done-below (built given) given k (omega arith))
 
 pub ledger : Ledger
-ledger given = ledger-in-one-mode given (one-mode given)
+ledger given = ledger-in-one-mode given (keeps-one-mode given)

@@ -4,7 +4,7 @@
 --     MorePagesProof         more-pages (demand 3, page lists)
 --     MoreRightsProof        more-rights (demand 3, permission bits)
 --     ListOrderProof         order-free (the order of a page list)
---     LedgerProof            ledger-in-one-mode, ledger
+--     LedgerProof            ledger-in-one-mode, keeps-one-mode, ledger
 --     RangesProof            stays-in-range, run-stays-in-range
 --     FaultsProof            fault-numbers
 --     CallOfNextProof        same-call-of-next, call-of-next-untouched (CALL with displacement 0 does not use the shadow stack)

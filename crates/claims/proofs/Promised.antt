@@ -4,7 +4,7 @@ use Rattle.claims.proofs.EndsProof.{refused-before, unchanged, count-ti
 use Rattle.claims.proofs.MorePagesProof.{more-pages}
 use Rattle.claims.proofs.MoreRightsProof.{more-rights}
 use Rattle.claims.proofs.ListOrderProof.{order-free}
-use Rattle.claims.proofs.LedgerProof.{ledger-in-one-mode, ledger}
+use Rattle.claims.proofs.LedgerProof.{ledger-in-one-mode, keeps-one-mode, ledger}
 use Rattle.claims.proofs.RangesProof.{stays-in-range, run-stays-in-range}
 use Rattle.claims.proofs.FaultsProof.{fault-numbers}
 use Rattle.claims.proofs.CallOfNextProof.{same-call-of-next, call-of-next-untouched}
@@ -31,6 +31,7 @@ promised = record {
   demand-3 = demand-3;
   order-free = order-free;
   ledger-in-one-mode = ledger-in-one-mode;
+  keeps-one-mode = keeps-one-mode;
   ledger = ledger;
   stays-in-range = stays-in-range;
   run-stays-in-range = run-stays-in-range;

@@ -16,7 +16,7 @@ use Rattle.answers.specs.declared.answer.Refusal.the-variants.{Length, Kind, Ad
 use Rattle.processor.specs.declared.state.State.{State}
 use Rattle.instructions.specs.Instruction.{instructionAt}
 use Rattle.perform.specs.Exec.{InstructionSet, exec, perform}
-use Rattle.replay.specs.Run.{Input, lookOf, listed, badWords, afterPages, checkBy, check, step, afterFrom, after, built}
+use Rattle.replay.specs.Run.{Input, lookOf, listed, badWords, afterPages, checkBy, check, step, afterFrom, after, built, stepped}
 use Rattle.instructions.specs.declared.instruction.Instruction.{Instruction}
 use Rattle.replay.specs.declared.steps.Tested.{Tested}
 use Rattle.replay.specs.declared.steps.Tested.the-variants.{Passed, Failed}
@@ -107,5 +107,18 @@ unfolding afterFrom
 after-in-range given good zero = good
 after-in-range given good (suc k) = performed-in-range given (lookOf given) (listed given k) _ _ (after-in-range given good k)
 
+-- what a step leaves is run by the set of the first input
+built-of-next : (given : Input) (before : Step) (i : Instruction) → built (nextInput given before i) ≡ built given
+built-of-next given before i = refl
+
+-- so each step may be taken by that set
+by-first-set : (given : Input) (k : ℕ) → stepping stepped given k ≡ stepping (step (built given)) given k
+unfolding stepping
+by-first-set given zero = refl
+by-first-set given (suc k) =
+    ap (λ (set : InstructionSet). step set (nextInput given (stepping stepped given k) (listed given k))) (built-of-next given (stepping stepped given k) (listed given k))
+    ∙ ap (λ (before : Step). step (built given) (nextInput given before (listed given k))) (by-first-set given k)
+
 pub step-by-step : StepByStep
-step-by-step given passed k = step-by-step-in-range (built given) given passed k (λ j below. after-in-range given (passed-in-range given passed) j)
+step-by-step given passed k =
+    by-first-set given k ∙ step-by-step-in-range (built given) given passed k (λ j below. after-in-range given (passed-in-range given passed) j)

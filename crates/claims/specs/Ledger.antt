@@ -32,8 +32,9 @@ popped (Ret release) i s = frameBytes s
 popped (Wruss size) i s = 0
 popped Unknown i s = 0
 
--- Bytes pushed by an instruction that completes from this opening state: a frame by every CALL but a relative one with displacement 0. That
--- goes by the words of the instruction and not by CALL's own definition, so that the ledger holds only where that agrees.
+-- Bytes pushed by an instruction that completes from this opening state: a frame by every CALL but a relative one with displacement 0.
+-- Whether there is a frame goes by the words of the instruction and not by CALL's `displaced`, so that the ledger holds only where the
+-- two agree; its size and `enabled` are the operations' own.
 abbrev pub pushedBy : Operation → Instruction → State → ℕ
 pushedBy (Incssp size) i s = 0
 pushedBy Rstorssp i s = 0
@@ -71,6 +72,10 @@ OneMode given = (j : ℕ) → j < replayed given .count → after (built given) 
 abbrev pub LedgerInOneMode : Type 0
 LedgerInOneMode = (given : Input) → OneMode given → NeverRestored given → Balanced given
 
--- no operation that is built changes the mode
+-- today every run keeps one mode: no operation that is built changes it
+abbrev pub KeepsOneMode : Type 0
+KeepsOneMode = (given : Input) → OneMode given
+
+-- so the ledger holds of every run without a completed RSTORSSP
 abbrev pub Ledger : Type 0
 Ledger = (given : Input) → NeverRestored given → Balanced given

@@ -29,7 +29,8 @@ abbrev pub isUd : Answer → Bool
 isUd answer = eqb (reportOf answer .vector) 6
 
 -- A WRSS was not permitted (the papers' term): outside mode 0 and while enabled, it gave #UD, and WR_SHSTK_EN of this CPL is
--- clear. `i` is the instruction that the run ended at; the run's state is the one from before it.
+-- clear. A #UD of what precedes the instruction (`precedes`) counts too; the set that is built has none there. `i` is the instruction
+-- that the run ended at; the run's state is the one from before it.
 unfoldable pub notPermitted : Run → Instruction → Bool
 notPermitted r i = isUd (r .answer) && (isWrss (decoded (i .code)) && (usable (r .state) && not (permitted (r .state))))
 

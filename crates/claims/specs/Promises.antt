@@ -4,7 +4,7 @@ use Rattle.claims.specs.Ends.{RefusedBefore, Unchanged, CountTied, Compl
 use Rattle.claims.specs.MorePages.{MorePages}
 use Rattle.claims.specs.MoreRights.{MoreRights}
 use Rattle.claims.specs.ListOrder.{OrderFree}
-use Rattle.claims.specs.Ledger.{LedgerInOneMode, Ledger}
+use Rattle.claims.specs.Ledger.{LedgerInOneMode, KeepsOneMode, Ledger}
 use Rattle.claims.specs.Ranges.{StaysInRange, RunStaysInRange}
 use Rattle.claims.specs.Faults.{FaultNumbers}
 use Rattle.claims.specs.CallOfNext.{SameCallOfNext, CallOfNextUntouched}
@@ -32,6 +32,7 @@ pub record Promises : Type 0 where
   pub demand-3 : Demand3
   pub order-free : OrderFree
   pub ledger-in-one-mode : LedgerInOneMode
+  pub keeps-one-mode : KeepsOneMode
   pub ledger : Ledger
   pub stays-in-range : StaysInRange
   pub run-stays-in-range : RunStaysInRange

@@ -8,7 +8,7 @@ use Rattle.processor.specs.State.{inRange}
 use Rattle.answers.specs.declared.answer.Answer.the-variants.{Completed}
 use Rattle.instructions.specs.Instruction.{alone}
 use Rattle.perform.specs.Exec.{InstructionSet}
-use Rattle.replay.specs.Run.{Input, listed, withState, withPages, withWords, check, step, after, built}
+use Rattle.replay.specs.Run.{Input, listed, withState, withPages, withWords, check, step, after, built, stepped}
 use Rattle.instructions.specs.declared.instruction.Instruction.{Instruction}
 use Rattle.replay.specs.declared.steps.Tested.the-variants.{Passed}
 
@@ -16,17 +16,17 @@ use Rattle.replay.specs.declared.steps.Tested.the-variants.{Passed}
 abbrev pub nextInput : Input → Step → Instruction → Input
 nextInput given before i = withWords (withPages (withState given (before .state)) (given .pages) (before .bytes)) (alone i)
 
--- k steps of the listed instructions
-unfoldable pub stepping : InstructionSet → Input → ℕ → Step
-stepping set given zero = record { answer = Completed; state = given .state; bytes = given .bytes }
-stepping set given (suc k) = step set (nextInput given (stepping set given k) (listed given k))
+-- k steps of the listed instructions, each taken by `single`
+unfoldable pub stepping : (Input → Step) → Input → ℕ → Step
+stepping single given zero = record { answer = Completed; state = given .state; bytes = given .bytes }
+stepping single given (suc k) = single (nextInput given (stepping single given k) (listed given k))
 
 -- State, bytes and last answer are those after k single operations, whatever each answers. A step is refused where its state is out of
 -- range, so of any instruction set this is claimed while the states stay in range.
 abbrev pub StepByStepInRange : Type 0
 StepByStepInRange = (set : InstructionSet) (given : Input) → check given ≡ Passed
-    → (k : ℕ) → ((j : ℕ) → j < k → inRange (after set given j .state) ≡ true) → stepping set given k ≡ after set given k
+    → (k : ℕ) → ((j : ℕ) → j < k → inRange (after set given j .state) ≡ true) → stepping (step set) given k ≡ after set given k
 
--- Of the codes that are built they do; each step is then `stepped`, since all of its inputs are run by the same set.
+-- Of the codes that are built they do. Each step is `stepped`, as the contract of the public one says: by the set of its own input.
 abbrev pub StepByStep : Type 0
-StepByStep = (given : Input) → check given ≡ Passed → (k : ℕ) → stepping (built given) given k ≡ after (built given) given k
+StepByStep = (given : Input) → check given ≡ Passed → (k : ℕ) → stepping stepped given k ≡ after (built given) given k
