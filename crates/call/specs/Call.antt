@@ -1,8 +1,8 @@
 -- Near CALL, relative and absolute. Assumes nothing.
 use Prim.Native.Nat.{ℕ}
 use mathlib.Core.Bool.{Bool, true, not, cond, _&&_}
-use Rattle.rows.specs.Rows.{byteCount}
-use Rattle.rows.specs.declared.size.Size.{Size}
+use Rattle.numbers.specs.Numbers.{byteCount}
+use Rattle.numbers.specs.declared.size.Size.{Size}
 use Rattle.answers.specs.Answer.{ss, gp}
 use Rattle.processor.specs.State.{enabled, minus, next}
 use Rattle.processor.specs.Layout.{withIp, withSp, withSsp}

@@ -1,7 +1,7 @@
 -- What a call does to the shadow stack, as the code has it, for the contract of a private function. Assumes nothing.
 use Prim.Native.Nat.{ℕ}
 use mathlib.Core.Bool.{Bool, true, cond}
-use Rattle.rows.specs.Rows.{byteCount}
+use Rattle.numbers.specs.Numbers.{byteCount}
 use Rattle.stores.specs.declared.Slot.the-variants.{Empty, Store}
 use Rattle.processor.specs.State.{minus}
 use Rattle.processor.specs.Accesses.{shadow}

@@ -6,7 +6,7 @@ use mathlib.Core.List.{List}
 use mathlib.Core.Path.{_≡_, refl, sym, _∙_, ap}
 use borrow.Author.Tests.{not-true, not-false}
 use Rattle.pages.specs.Pages.{Lookup}
-use Rattle.rows.specs.declared.size.Size.{Size}
+use Rattle.numbers.specs.declared.size.Size.{Size}
 use Rattle.answers.specs.Answer.{ud}
 use Rattle.processor.specs.State.{usable, permitted}
 use Rattle.processor.specs.Prog.{Prog, stop, _>>=_, Result, ended, broken, interp, Step, operate}

@@ -6,7 +6,7 @@ use mathlib.Core.List.{List}
 use mathlib.Core.Logic.{_⊎_, inl, inr}
 use mathlib.Core.Path.{_≡_, refl}
 use lib.Dec.{eqb}
-use Rattle.rows.specs.Rows.{byteCount}
+use Rattle.numbers.specs.Numbers.{byteCount}
 use Rattle.memory.specs.Access.{value}
 use Rattle.pages.specs.Pages.{Lookup}
 use Rattle.memory.specs.declared.access.Access.{Access}

@@ -7,7 +7,7 @@ use mathlib.Core.Path.{_≡_, refl}
 use lib.Dec.{eqb}
 use Rattle.memory.specs.Access.{value}
 use Rattle.pages.specs.Pages.{Lookup}
-use Rattle.rows.specs.declared.size.Size.the-variants.{Eight}
+use Rattle.numbers.specs.declared.size.Size.the-variants.{Eight}
 use Rattle.answers.specs.Answer.{ud, gp, cpRstorssp}
 use Rattle.processor.specs.Accesses.{shadow}
 use Rattle.processor.specs.Layout.{withIp, withSsp, withFlags}

@@ -9,7 +9,7 @@ use lib.Dec.{eqb}
 use Rattle.memory.specs.Access.{value}
 use Rattle.pages.specs.Pages.{Lookup}
 use Rattle.memory.specs.declared.access.Access.{Access}
-use Rattle.rows.specs.declared.size.Size.the-variants.{Four, Eight}
+use Rattle.numbers.specs.declared.size.Size.the-variants.{Four, Eight}
 use Rattle.answers.specs.Answer.{ud, gp}
 use Rattle.processor.specs.Accesses.{shadow}
 use Rattle.processor.specs.Layout.{withIp, withSsp}

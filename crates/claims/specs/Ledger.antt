@@ -3,7 +3,7 @@ use Prim.Native.Nat.{ℕ, zero, suc, _+_, _*_, _%_, _<_}
 use mathlib.Core.Path.{_≡_}
 use mathlib.Core.Bool.{cond}
 use lib.Dec.{eqb}
-use Rattle.rows.specs.Rows.{byteCount}
+use Rattle.numbers.specs.Numbers.{byteCount}
 use Rattle.pages.specs.Address.{wrapped}
 use Rattle.processor.specs.State.{enabled, widthOf}
 use Rattle.processor.specs.declared.state.State.{State}

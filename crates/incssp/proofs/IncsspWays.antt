@@ -6,11 +6,11 @@ use mathlib.Core.List.{List}
 use native.Mathlib.Omega.{arith}
 use lib.Dec.{ltb}
 use borrow.Author.Tests.{lt-ltb, le-ltb}
-use Rattle.rows.specs.Rows.{byteCount}
+use Rattle.numbers.specs.Numbers.{byteCount}
 use Rattle.memory.specs.Access.{load as loadAt}
 use Rattle.pages.specs.Pages.{Lookup}
 use Rattle.rows.specs.declared.reach.Failure.{Failure}
-use Rattle.rows.specs.declared.size.Size.{Size}
+use Rattle.numbers.specs.declared.size.Size.{Size}
 use Rattle.memory.specs.declared.load.Loaded.the-variants.{Value, Blocked as Unloaded}
 use Rattle.answers.specs.Answer.{ud}
 use Rattle.processor.specs.State.{usable, plus, next}

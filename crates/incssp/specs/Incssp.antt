@@ -2,8 +2,8 @@
 use Prim.Native.Nat.{ℕ, _-_, _*_, _%_}
 use mathlib.Core.Bool.{false}
 use lib.Dec.{ltb}
-use Rattle.rows.specs.Rows.{byteCount}
-use Rattle.rows.specs.declared.size.Size.{Size}
+use Rattle.numbers.specs.Numbers.{byteCount}
+use Rattle.numbers.specs.declared.size.Size.{Size}
 use Rattle.answers.specs.Answer.{ud}
 use Rattle.processor.specs.State.{usable, plus, next}
 use Rattle.processor.specs.Layout.{withIp, withSsp}

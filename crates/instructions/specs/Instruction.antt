@@ -4,8 +4,8 @@ use mathlib.Core.Bool.{Bool, true, false, cond, _&&_}
 use mathlib.Core.List.{List, [], _∷_}
 use lib.ListN.{getD}
 use lib.Dec.{eqb, ltb, leb}
-use Rattle.rows.specs.declared.size.Size.{Size}
-use Rattle.rows.specs.declared.size.Size.the-variants.{Four, Eight}
+use Rattle.numbers.specs.declared.size.Size.{Size}
+use Rattle.numbers.specs.declared.size.Size.the-variants.{Four, Eight}
 use Rattle.instructions.specs.Operation.{decoded}
 use Rattle.instructions.specs.declared.instruction.Instruction.{Instruction}
 use Rattle.instructions.specs.declared.operation.Operation.{Operation}

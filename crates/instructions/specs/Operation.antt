@@ -2,8 +2,8 @@
 use Prim.Native.Nat.{ℕ}
 use mathlib.Core.Bool.{Bool, true, false, cond}
 use lib.Dec.{eqb}
-use Rattle.rows.specs.declared.size.Size.{Size}
-use Rattle.rows.specs.declared.size.Size.the-variants.{Four, Eight}
+use Rattle.numbers.specs.declared.size.Size.{Size}
+use Rattle.numbers.specs.declared.size.Size.the-variants.{Four, Eight}
 use Rattle.instructions.specs.declared.operation.Operation.{Operation}
 use Rattle.instructions.specs.declared.operation.Operation.the-variants.{Incssp, Rstorssp, Saveprevssp, Wrss, Call, Ret, Wruss, Unknown}
 use Rattle.instructions.specs.declared.operation.Target.the-variants.{Relative, Absolute}

@@ -11,16 +11,18 @@ use lib.Dec.{ltb, leb}
 use borrow.Author.Tests.{leb-true, leb-false, le-leb, le-ltb, lt-ltb}
 use Rattle.pages.specs.Address.{plus, canonical}
 use Rattle.pages.specs.Pages.{Lookup, pageBytes, pageOf, kindOf, onPage, inPage, spotFrom, spot}
-use Rattle.rows.specs.Rows.{byteCount, andThen, scan, canonicalByte, listedByte}
+use Rattle.numbers.specs.Numbers.{byteCount}
+use Rattle.rows.specs.Rows.{andThen, scan, canonicalByte, listedByte}
 use Rattle.memory.specs.Access.{lookupOf, kindNumber, start, canonicalBytes, listedBytes, probe}
 use Rattle.rows.specs.Rows.{byteIn, number, write}
 use Rattle.memory.specs.Access.{value, load, written, store}
-use Rattle.memory.specs.OnePage.{onePage, further, OnLentPage, locatedIf, within, located, firstReach, firstLocated, numberAt, putAt, onLentPage, storeAt}
+use Rattle.numbers.specs.Numbers.{numberAt, putAt}
+use Rattle.memory.specs.OnePage.{onePage, further, OnLentPage, locatedIf, within, located, firstReach, firstLocated, onLentPage, storeAt}
 use Rattle.pages.specs.declared.address.Width.{Width}
 use Rattle.pages.specs.declared.address.Width.the-variants.{Bits32, Bits64}
 use Rattle.pages.specs.declared.pages.Spot.{Spot}
 use Rattle.pages.specs.declared.pages.Spot.the-variants.{Unlisted, At}
-use Rattle.rows.specs.declared.size.Size.{Size}
+use Rattle.numbers.specs.declared.size.Size.{Size}
 use Rattle.memory.specs.declared.access.Access.{Access}
 use Rattle.rows.specs.declared.reach.Failure.the-variants.{NotCanonical}
 use Rattle.rows.specs.declared.reach.Reach.{Reach}
@@ -28,7 +30,7 @@ use Rattle.rows.specs.declared.reach.Reach.the-variants.{Ready, Blocked}
 use Rattle.memory.specs.declared.one_page.Located.{Located}
 use Rattle.memory.specs.declared.one_page.Located.the-variants.{Within, Across, Blocked as Unreached}
 use Rattle.memory.specs.declared.load.Loaded.the-variants.{Value}
-use Rattle.rows.proofs.Laws.{at-least-four, at-most-eight}
+use Rattle.numbers.proofs.Laws.{at-least-four, at-most-eight}
 use Rattle.memory.proofs.Answers.{load-done, store-done}
 use Rattle.memory.proofs.Cells.{reached}
 use Rattle.rows.proofs.Laws.{behind, spot-page}

@@ -10,7 +10,8 @@ use Rattle.pages.specs.Pages.{Lookup}
 use Rattle.pages.specs.declared.address.Width.{Width}
 use Rattle.pages.specs.declared.pages.Spot.{Spot}
 use Rattle.pages.specs.declared.pages.Spot.the-variants.{Unlisted, At}
-use Rattle.rows.specs.Rows.{byteCount, andThen, scan, onKind, listedByte}
+use Rattle.numbers.specs.Numbers.{byteCount}
+use Rattle.rows.specs.Rows.{andThen, scan, onKind, listedByte}
 use Rattle.memory.specs.Access.{kindNumber, start, canonicalBytes, listedBytes, probe, written}
 use Rattle.memory.specs.Extends.{cell, isListed, isKind, Places}
 use Rattle.memory.specs.declared.access.Access.{Access}

@@ -1,25 +1,26 @@
--- Bytes in a row on a page that is handed on are those bytes of the whole; and 8 of them are twice 4. Assumes nothing.
-use Prim.Native.Nat.{ℕ, zero, suc, _+_, _-_, _*_, _/_, _%_, _^_, _<_, _≤_}
+-- Bytes in a row on a page that is handed on are those bytes of the whole. Assumes nothing.
+use Prim.Native.Nat.{ℕ, zero, suc, _+_, _-_, _*_, _/_, _%_, _<_, _≤_}
 use mathlib.Core.Path.{_≡_, refl, sym, _∙_, ap, ap₂}
-use mathlib.Core.Bool.{Bool, true, false}
 use mathlib.Core.List.{List, _++_}
 use native.Mathlib.Omega.{arith}
-use lib.ListN.{length, getD, set, take, drop, length-set}
+use lib.ListN.{length, set, take, drop}
 use lib.Seq.{getD-take, getD-drop, take-set-le, take-set-lt, drop-set-add, drop-set-lt}
 use lib.Dec.{leb}
-use borrow.Author.Tests.{leb-true, leb-false, le-leb, lt-leb}
-use borrow.Rule.Slice.PartMut.{midOf, putMid, put-same}
+use borrow.Rule.Slice.PartMut.{midOf, putMid, put-same, mid-len}
 use Rattle.pages.specs.Pages.{pageBytes}
-use Rattle.memory.specs.OnePage.{numberAt, putAt}
+use Rattle.numbers.specs.Numbers.{inside, numberAt, putAt}
+use Rattle.numbers.proofs.Laws.{room-left}
+use Rattle.memory.specs.OnePage.{OnLentPage}
 use Rattle.rows.proofs.Laws.{pageStart, pageLength, whole}
 
 -- what is left of a page, as the code has it
-pub room-left : (address n : ℕ) → leb n (pageBytes - address % pageBytes) ≡ leb (address % pageBytes + n) pageBytes
-room-left address n = go (leb n (pageBytes - address % pageBytes)) refl
-  where
-    go : (t : Bool) → leb n (pageBytes - address % pageBytes) ≡ t → t ≡ leb (address % pageBytes + n) pageBytes
-    go true e = let fits = leb-true n (pageBytes - address % pageBytes) e in sym (le-leb (address % pageBytes + n) pageBytes (omega arith))
-    go false e = let over = leb-false n (pageBytes - address % pageBytes) e in sym (lt-leb (address % pageBytes + n) pageBytes (omega arith))
+pub room-on-page : (address n : ℕ) → leb n (pageBytes - address % pageBytes) ≡ leb (address % pageBytes + n) pageBytes
+unfolding inside
+room-on-page address n = room-left pageBytes (address % pageBytes) n (omega arith)
+
+-- the page that is handed on holds the bytes
+pub on-page : (bytes : List ℕ) (place n : ℕ) → OnLentPage (length bytes) place n → place % pageBytes + n ≤ length (midOf (pageStart place) (pageLength place) bytes)
+on-page bytes place n on = omega (arith, mid-len (pageStart place) (pageStart place + pageBytes) bytes (on .lent-whole), on .inside)
 
 -- ---- on a part of the bytes
 
@@ -63,44 +64,3 @@ load-part bytes place n h = number-part bytes (pageStart place) (pageLength plac
 pub store-part : (xs : List ℕ) (place n v : ℕ) → place % pageBytes + n ≤ pageBytes
     → putMid (pageStart place) (pageLength place) xs (putAt (place % pageBytes) n v (midOf (pageStart place) (pageLength place) xs)) ≡ putAt place n v xs
 store-part xs place n v h = put-part xs (pageStart place) (pageLength place) (place % pageBytes) n v (omega arith) ∙ ap (λ (p : ℕ). putAt p n v xs) (whole place)
-
-pub length-put-at : (place n v : ℕ) (bytes : List ℕ) → length (putAt place n v bytes) ≡ length bytes
-unfolding putAt
-length-put-at place zero v bytes = refl
-length-put-at place (suc n) v bytes = length-put-at (suc place) n (v / 256) (set bytes place (v % 256)) ∙ length-set bytes place (v % 256)
-
--- ---- four bytes, and eight
-
--- the next places, as the code and as the recursions have them
-second : (at : ℕ) → at + 1 ≡ suc at
-second at = omega arith
-
-third : (at : ℕ) → at + 2 ≡ suc (suc at)
-third at = omega arith
-
-fourth : (at : ℕ) → at + 3 ≡ suc (suc (suc at))
-fourth at = omega arith
-
-fifth : (at : ℕ) → at + 4 ≡ suc (suc (suc (suc at)))
-fifth at = omega arith
-
-pub four-bytes : (bytes : List ℕ) (at : ℕ) → getD bytes at 0 + 256 * getD bytes (at + 1) 0 + 65536 * (getD bytes (at + 2) 0 + 256 * getD bytes (at + 3) 0) ≡ numberAt bytes at 4
-unfolding numberAt
-four-bytes bytes at = rw (second at, third at, fourth at) (omega arith)
-
-pub eight-bytes : (bytes : List ℕ) (at : ℕ) → numberAt bytes at 4 + 2 ^ 32 * numberAt bytes (at + 4) 4 ≡ numberAt bytes at 8
-unfolding numberAt
-eight-bytes bytes at = rw (fifth at) (omega arith)
-
--- the bytes of a value: one division after the other, or one by a power of 256
-pub put-four-bytes : (at v : ℕ) (bytes : List ℕ)
-    → set (set (set (set bytes at (v % 256)) (at + 1) (v / 256 % 256)) (at + 2) (v / 65536 % 256)) (at + 3) (v / 16777216 % 256) ≡ putAt at 4 v bytes
-unfolding putAt
-put-four-bytes at v bytes =
-    let two : v / 65536 ≡ v / 256 / 256 = omega arith in
-    let three : v / 16777216 ≡ v / 256 / 256 / 256 = omega arith in
-    rw (second at, third at, fourth at, two, three)
-
-pub put-eight : (at v : ℕ) (bytes : List ℕ) → putAt (at + 4) 4 (v / 2 ^ 32) (putAt at 4 v bytes) ≡ putAt at 8 v bytes
-unfolding putAt
-put-eight at v bytes = let four : v / 2 ^ 32 ≡ v / 256 / 256 / 256 / 256 = omega arith in rw (fifth at, four)

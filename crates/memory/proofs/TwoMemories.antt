@@ -9,7 +9,8 @@ use lib.ListN.{length, getD}
 use lib.Dec.{eqb}
 use Rattle.pages.specs.Address.{plus}
 use Rattle.pages.specs.Pages.{Lookup}
-use Rattle.rows.specs.Rows.{byteCount, andThen, scan, onKind, listedByte}
+use Rattle.numbers.specs.Numbers.{byteCount}
+use Rattle.rows.specs.Rows.{andThen, scan, onKind, listedByte}
 use Rattle.memory.specs.Access.{kindNumber, start, canonicalBytes, listedBytes, probe}
 use Rattle.rows.specs.Rows.{byteIn, number, putByte, write}
 use Rattle.memory.specs.Access.{value, loadedIf, load, written, storedIf, store}

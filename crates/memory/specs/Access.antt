@@ -5,7 +5,8 @@ use mathlib.Core.List.{List}
 use lib.ListN.{length}
 use Rattle.pages.specs.Address.{wrapped}
 use Rattle.pages.specs.Pages.{Lookup, userShadow, supervisorShadow, ordinary, spot}
-use Rattle.rows.specs.Rows.{byteCount, andThen, scan, canonicalByte, listedByte, number, write}
+use Rattle.numbers.specs.Numbers.{byteCount}
+use Rattle.rows.specs.Rows.{andThen, scan, canonicalByte, listedByte, number, write}
 use Rattle.rows.specs.declared.reach.Reach.{Reach}
 use Rattle.rows.specs.declared.reach.Reach.the-variants.{Ready, Blocked}
 use Rattle.memory.specs.declared.access.Kind.{Kind}

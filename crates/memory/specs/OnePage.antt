@@ -1,14 +1,15 @@
--- Numbers whose bytes all lie on one page, where an access lies, and bytes stored at a place. The theorem `first-byte-decides`
+-- Numbers whose bytes all lie on one page, where an access lies, and a number stored at a place. The theorem `first-byte-decides`
 -- (proofs/OnePage.antt) is stated by `onePage` and `further`, the contract of `Access::locate` by `located`, that of `store_at` by
 -- `storeAt`. The others serve the contracts of private functions. Assumes nothing.
-use Prim.Native.Nat.{ℕ, zero, suc, _+_, _-_, _*_, _/_, _%_, _≤_}
+use Prim.Native.Nat.{ℕ, _+_, _-_, _/_, _%_, _≤_}
 use mathlib.Core.Bool.{Bool, true, cond, _&&_}
 use mathlib.Core.List.{List}
-use lib.ListN.{length, getD, set}
+use lib.ListN.{length}
 use lib.Dec.{ltb, leb}
 use Rattle.pages.specs.Address.{canonical}
 use Rattle.pages.specs.Pages.{Lookup, pageBytes}
-use Rattle.rows.specs.Rows.{byteCount, listedByte}
+use Rattle.numbers.specs.Numbers.{byteCount, putAt}
+use Rattle.rows.specs.Rows.{listedByte}
 use Rattle.memory.specs.Access.{kindNumber, start, probe}
 use Rattle.pages.specs.declared.pages.Spot.{Spot}
 use Rattle.pages.specs.declared.pages.Spot.the-variants.{Unlisted, At}
@@ -63,17 +64,7 @@ firstReach look a = cond (allowed a (start a)) (listedByte look (kindNumber (a .
 unfoldable pub firstLocated : Lookup → Access → Located
 firstLocated look a = locatedIf (firstReach look a) (within (look (start a)))
 
--- ---- bytes in a row, by their place
-
--- the number that n bytes hold, low byte first
-unfoldable pub numberAt : List ℕ → ℕ → ℕ → ℕ
-numberAt bytes place zero = 0
-numberAt bytes place (suc n) = getD bytes place 0 + 256 * numberAt bytes (suc place) n
-
--- the low n bytes of a value, low byte first
-unfoldable pub putAt : ℕ → ℕ → ℕ → List ℕ → List ℕ
-putAt place zero v bytes = bytes
-putAt place (suc n) v bytes = putAt (suc place) n (v / 256) (set bytes place (v % 256))
+-- ---- bytes stored at a place
 
 -- n bytes from a place on lie on one page, and that is lent whole
 unfoldable pub onLentPage : ℕ → ℕ → ℕ → Bool

@@ -2,10 +2,10 @@
 ghost use mathlib.Core.Path.{_≡_};
 ghost use Rattle.pages.specs.Pages.{spot};
 ghost use Rattle.memory.specs.Access.{kindNumber, canonicalBytes, probe as probeOf};
+use numbers::Size;
 use pages::Width;
 use rows::Asked;
 use rows::Reach;
-use rows::Size;
 use rows::test_bytes;
 
 // The three kinds of page.

@@ -1,20 +1,23 @@
 // Numbers whose bytes all lie on one page: the page is looked up once, and the bytes are read and written there directly. The first
 // byte's page, kind and place decide for all of them (proofs/OnePage.antt, `first-byte-decides`).
 ghost use mathlib.Core.Path.{_≡_};
-ghost use Prim.Native.Nat.{_+_, _^_, _≤_, _<_};
-ghost use lib.ListN.{length, getD};
+ghost use Prim.Native.Nat.{_+_, _<_};
+ghost use lib.ListN.{length};
 ghost use Rattle.pages.specs.Pages.{spot};
-ghost use Rattle.rows.specs.Rows.{byteCount, onKind};
+ghost use Rattle.numbers.specs.Numbers.{byteCount};
+ghost use Rattle.rows.specs.Rows.{onKind};
 ghost use Rattle.memory.specs.Access.{lookupOf};
-ghost use Rattle.memory.specs.OnePage.{onePage, allowed, locatedIf, within, located, firstLocated, OnLentPage, numberAt, putAt, storeAt};
+ghost use Rattle.numbers.specs.Numbers.{numberAt, putAt};
+ghost use Rattle.memory.specs.OnePage.{onePage, allowed, locatedIf, within, located, firstLocated, OnLentPage, storeAt};
 use crate::access::Access;
+use numbers::Held;
+use numbers::Size;
 use pages::PAGE_BYTES;
 use pages::Spot;
 use pages::canonical;
 use pages::find;
 use rows::Failure;
 use rows::Reach;
-use rows::Size;
 
 // What trying an access finds, and where it lies.
 pub enum Located {
@@ -90,58 +93,6 @@ impl Access {
     }
 }
 
-// The byte at a place of a page.
-fn byte(page: &[u8], at: usize) -> u64
-    requires { ⌜ at < length (now page) ⌝ }
-    ensures { λ r. ⌜ (r ≡ getD (now (page .entry)) at 0) × (r < 256) ⌝ }
-{
-    page[at] as u64
-}
-
-// The number that 4 bytes of a page hold.
-fn four(page: &[u8], at: usize) -> u64
-    requires { ⌜ at + 4 ≤ length (now page) ⌝ }
-    ensures { λ r. ⌜ (r ≡ numberAt (now (page .entry)) at 4) × (r < 2 ^ 32) ⌝ }
-{
-    let low = byte(page, at) + 0x100 * byte(page, at + 1);
-    let high = byte(page, at + 2) + 0x100 * byte(page, at + 3);
-    low + 0x1_0000 * high
-}
-
-// The number that 4 or 8 bytes of a page hold.
-fn number_on(page: &[u8], at: usize, size: Size) -> u64
-    requires { ⌜ at + byteCount size ≤ length (now page) ⌝ }
-    ensures { λ r. ⌜ r ≡ numberAt (now (page .entry)) at (byteCount size) ⌝ }
-{
-    match size {
-        Size::Four => four(page, at),
-        Size::Eight => four(page, at) + 0x1_0000_0000 * four(page, at + 4),
-    }
-}
-
-// Writes the low 4 bytes of a value to a page.
-fn put_four(page: &mut [u8], at: usize, value: u64)
-    requires { ⌜ at + 4 ≤ length (now page) ⌝ }
-    ensures { λ _. ⌜ now (page .exit) ≡ putAt at 4 value (now (page .entry)) ⌝ }
-{
-    page[at] = (value % 256) as u8;
-    page[at + 1] = (value / 0x100 % 256) as u8;
-    page[at + 2] = (value / 0x1_0000 % 256) as u8;
-    page[at + 3] = (value / 0x100_0000 % 256) as u8;
-}
-
-// Writes the low 4 or 8 bytes of a value to a page.
-fn put_on(page: &mut [u8], at: usize, size: Size, value: u64)
-    requires { ⌜ at + byteCount size ≤ length (now page) ⌝ }
-    ensures { λ _. ⌜ now (page .exit) ≡ putAt at (byteCount size) value (now (page .entry)) ⌝ }
-{
-    put_four(page, at, value);
-    match size {
-        Size::Four => {}
-        Size::Eight => put_four(page, at + 4, value / 0x1_0000_0000),
-    }
-}
-
 // The number at a place, all on one page. Only that page is handed on.
 pub(crate) fn load_within(bytes: &[u8], place: usize, size: Size) -> u64
     requires { ⌜ OnLentPage (length (now bytes)) place (byteCount size) ⌝ }
@@ -150,7 +101,10 @@ pub(crate) fn load_within(bytes: &[u8], place: usize, size: Size) -> u64
     let at = place % PAGE_BYTES;
     let start = place - at;
     let end = start + PAGE_BYTES;
-    number_on(&bytes[start..end], at, size)
+    match numbers::load(&bytes[start..end], at, size) {
+        Held::Number(value) => value,
+        Held::Outside => 0,
+    }
 }
 
 // Writes the low bytes of a value at a place, all on one page. Only that page is lent on.
@@ -161,7 +115,7 @@ pub(crate) fn store_within(bytes: &mut [u8], place: usize, size: Size, value: u6
     let at = place % PAGE_BYTES;
     let start = place - at;
     let end = start + PAGE_BYTES;
-    put_on(&mut bytes[start..end], at, size, value);
+    numbers::store(&mut bytes[start..end], at, size, value);
 }
 
 // Writes the low bytes of a value at any place: nothing unless they all lie on one page, and that is lent whole.

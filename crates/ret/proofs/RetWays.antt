@@ -5,7 +5,7 @@ use mathlib.Core.Bool.{true, false, not}
 use mathlib.Core.List.{List}
 use lib.Dec.{eqb}
 use borrow.Author.Tests.{eq-eqb, ne-eqb}
-use Rattle.rows.specs.Rows.{byteCount}
+use Rattle.numbers.specs.Numbers.{byteCount}
 use Rattle.memory.specs.Access.{load as loadAt}
 use Rattle.pages.specs.Pages.{Lookup}
 use Rattle.rows.specs.declared.reach.Failure.{Failure}

@@ -2,8 +2,8 @@
 use Prim.Native.Nat.{ℕ}
 use mathlib.Core.Bool.{false, not, cond}
 use lib.Dec.{eqb}
-use Rattle.rows.specs.Rows.{byteCount}
-use Rattle.rows.specs.declared.size.Size.{Size}
+use Rattle.numbers.specs.Numbers.{byteCount}
+use Rattle.numbers.specs.declared.size.Size.{Size}
 use Rattle.answers.specs.Answer.{ss, gp, cpNearRet}
 use Rattle.processor.specs.State.{enabled, plus}
 use Rattle.processor.specs.Layout.{withIp, withSp, withSsp}

@@ -7,9 +7,7 @@ use native.Mathlib.Omega.{arith}
 use Rattle.pages.specs.Address.{plus}
 use Rattle.pages.specs.Pages.{Lookup}
 use Rattle.pages.specs.declared.address.Width.{Width}
-use Rattle.rows.specs.Rows.{byteCount, isReady, andThen, scan, byteIn, number, putByte, write}
-use Rattle.rows.specs.declared.size.Size.{Size}
-use Rattle.rows.specs.declared.size.Size.the-variants.{Four, Eight}
+use Rattle.rows.specs.Rows.{isReady, andThen, scan, byteIn, number, putByte, write}
 use Rattle.rows.specs.declared.reach.Reach.{Reach}
 use Rattle.rows.specs.declared.reach.Reach.the-variants.{Ready, Blocked}
 
@@ -60,13 +58,3 @@ blocked-first (Blocked failure) next e = refl
 pub ready-next : (r next : Reach) → not (isReady r) ≡ false → andThen r next ≡ next
 ready-next Ready next e = refl
 ready-next (Blocked failure) next e = absurd (true≢false e)
-
--- ---- sizes
-
-pub at-most-eight : (size : Size) → byteCount size ≤ 8
-at-most-eight Four = omega arith
-at-most-eight Eight = omega arith
-
-pub at-least-four : (size : Size) → 4 ≤ byteCount size
-at-least-four Four = omega arith
-at-least-four Eight = omega arith

@@ -10,19 +10,11 @@ use Rattle.pages.specs.Pages.{Lookup}
 use Rattle.pages.specs.declared.address.Width.{Width}
 use Rattle.pages.specs.declared.pages.Spot.{Spot}
 use Rattle.pages.specs.declared.pages.Spot.the-variants.{Unlisted, At}
-use Rattle.rows.specs.declared.size.Size.{Size}
-use Rattle.rows.specs.declared.size.Size.the-variants.{Four, Eight}
 use Rattle.rows.specs.declared.reach.Failure.the-variants.{NotCanonical, NotListed, WrongKind}
 use Rattle.rows.specs.declared.reach.Reach.{Reach}
 use Rattle.rows.specs.declared.reach.Reach.the-variants.{Ready, Blocked}
 use Rattle.rows.specs.declared.reach.Asked.{Asked}
 use Rattle.rows.specs.declared.reach.Asked.the-variants.{Canonical, OnKind}
-
--- ---- sizes
-
-abbrev pub byteCount : Size → ℕ
-byteCount Four = 4
-byteCount Eight = 8
 
 -- ---- trying
 

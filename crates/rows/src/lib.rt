@@ -4,7 +4,6 @@
 // The memory stands on this crate. Any entries, any bytes and any row may be handed in.
 mod load;
 mod reach;
-mod size;
 mod store;
 
 pub use load::number;
@@ -12,5 +11,4 @@ pub use reach::Asked;
 pub use reach::Failure;
 pub use reach::Reach;
 pub use reach::test_bytes;
-pub use size::Size;
 pub use store::write;

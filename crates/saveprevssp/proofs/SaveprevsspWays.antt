@@ -9,7 +9,7 @@ use Rattle.memory.specs.Access.{load as loadAt}
 use Rattle.pages.specs.Pages.{Lookup}
 use Rattle.memory.specs.declared.access.Access.{Access}
 use Rattle.rows.specs.declared.reach.Failure.{Failure}
-use Rattle.rows.specs.declared.size.Size.the-variants.{Four, Eight}
+use Rattle.numbers.specs.declared.size.Size.the-variants.{Four, Eight}
 use Rattle.memory.specs.declared.load.Loaded.the-variants.{Value, Blocked as Unloaded}
 use Rattle.stores.specs.Stores.{tryAll, writtenAll}
 use Rattle.stores.specs.declared.Slot.{Slot}

@@ -2,7 +2,7 @@
 use Prim.Native.Nat.{ℕ, _+_, _%_, _^_}
 use mathlib.Core.Bool.{Bool, true, false, not, cond, _&&_, _||_}
 use lib.Dec.{eqb, ltb}
-use Rattle.rows.specs.declared.size.Size.the-variants.{Four, Eight}
+use Rattle.numbers.specs.declared.size.Size.the-variants.{Four, Eight}
 use Rattle.answers.specs.Answer.{ud, gp}
 use Rattle.processor.specs.State.{isLong, longBit, usable, plus, minus, next}
 use Rattle.processor.specs.Layout.{withIp, withSsp}

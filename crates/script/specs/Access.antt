@@ -7,11 +7,11 @@ use lib.ListN.{getD}
 use lib.Dec.{eqb}
 use Rattle.pages.specs.Address.{modulus}
 use Rattle.pages.specs.Pages.{Lookup}
-use Rattle.rows.specs.Rows.{byteCount}
+use Rattle.numbers.specs.Numbers.{byteCount}
 use Rattle.memory.specs.Access.{kindNumber}
 use Rattle.pages.specs.declared.address.Width.{Width}
 use Rattle.memory.specs.declared.access.Kind.{Kind}
-use Rattle.rows.specs.declared.size.Size.{Size}
+use Rattle.numbers.specs.declared.size.Size.{Size}
 use Rattle.memory.specs.declared.access.Access.{Access}
 use Rattle.rows.specs.declared.reach.Failure.the-variants.{NotListed}
 use Rattle.rows.specs.declared.reach.Reach.{Reach}

@@ -4,8 +4,8 @@ use mathlib.Core.Bool.{Bool, not, cond, _&&_}
 use lib.Dec.{eqb, ltb, leb}
 use lib.IntN.{ℤ, pos, negsuc}
 use Rattle.pages.specs.Address.{canonical}
-use Rattle.rows.specs.declared.size.Size.{Size}
-use Rattle.rows.specs.declared.size.Size.the-variants.{Four, Eight}
+use Rattle.numbers.specs.declared.size.Size.{Size}
+use Rattle.numbers.specs.declared.size.Size.the-variants.{Four, Eight}
 use Rattle.processor.specs.State.{isLong, plus, minus, next}
 use Rattle.processor.specs.declared.state.State.{State}
 

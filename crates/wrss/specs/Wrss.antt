@@ -2,8 +2,8 @@
 use Prim.Native.Nat.{ℕ, _%_}
 use mathlib.Core.Bool.{Bool, true}
 use lib.Dec.{eqb}
-use Rattle.rows.specs.Rows.{byteCount}
-use Rattle.rows.specs.declared.size.Size.{Size}
+use Rattle.numbers.specs.Numbers.{byteCount}
+use Rattle.numbers.specs.declared.size.Size.{Size}
 use Rattle.answers.specs.Answer.{ud, gp}
 use Rattle.processor.specs.State.{usable, next}
 use Rattle.processor.specs.Layout.{withIp}

@@ -5,12 +5,12 @@ use mathlib.Core.Bool.{true, false}
 use mathlib.Core.List.{List}
 use lib.Dec.{eqb}
 use borrow.Author.Tests.{eq-eqb, ne-eqb}
-use Rattle.rows.specs.Rows.{byteCount}
+use Rattle.numbers.specs.Numbers.{byteCount}
 use Rattle.memory.specs.Access.{probe, written}
 use Rattle.pages.specs.Pages.{Lookup}
 use Rattle.rows.specs.declared.reach.Failure.{Failure}
 use Rattle.rows.specs.declared.reach.Reach.the-variants.{Ready, Blocked}
-use Rattle.rows.specs.declared.size.Size.{Size}
+use Rattle.numbers.specs.declared.size.Size.{Size}
 use Rattle.answers.specs.Answer.{ud, gp}
 use Rattle.processor.specs.State.{next}
 use Rattle.processor.specs.Layout.{withIp}

@@ -6,7 +6,7 @@ use borrow.Author.Tests.{not-true, not-false}
 use borrow.Author.Needs.{needs}
 use Rattle.processor.proofs.Laws.{long-small}
 use Rattle.memory.specs.Access.{lookupOf, load as loadAt}
-use Rattle.rows.specs.declared.size.Size.the-variants.{Eight}
+use Rattle.numbers.specs.declared.size.Size.the-variants.{Eight}
 use Rattle.memory.proofs.Laws.{loaded-value, store-done}
 use Rattle.processor.specs.State.{usable}
 use Rattle.processor.specs.Accesses.{shadow}

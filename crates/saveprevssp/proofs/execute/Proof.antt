@@ -5,7 +5,7 @@ use borrow.Author.Tests.{not-true, not-false}
 use borrow.Author.Needs.{needs}
 use Rattle.memory.specs.Access.{lookupOf, load as loadAt}
 use Rattle.memory.specs.declared.access.Access.{Access}
-use Rattle.rows.specs.declared.size.Size.the-variants.{Eight}
+use Rattle.numbers.specs.declared.size.Size.the-variants.{Eight}
 use Rattle.processor.specs.State.{usable}
 use Rattle.processor.specs.Accesses.{shadow}
 use Rattle.saveprevssp.proofs.SaveprevsspWays.{not-usable, not-aligned, blocked, popped}

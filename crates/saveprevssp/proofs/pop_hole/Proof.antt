@@ -3,7 +3,7 @@ use mathlib.Core.Path.{_≡_, sym, _∙_}
 use mathlib.Core.Bool.{false}
 use borrow.Author.Needs.{needs}
 use Rattle.memory.specs.Access.{lookupOf, load as loadAt}
-use Rattle.rows.specs.declared.size.Size.the-variants.{Four}
+use Rattle.numbers.specs.declared.size.Size.the-variants.{Four}
 use Rattle.memory.specs.declared.access.Access.{Access}
 use Rattle.processor.specs.State.{plus}
 use Rattle.processor.specs.Accesses.{shadow}

@@ -4,7 +4,7 @@ use mathlib.Core.Path.{_≡_, sym, _∙_}
 use mathlib.Core.Bool.{true}
 use borrow.Author.Tests.{not-true, not-false}
 use borrow.Author.Needs.{needs}
-use Rattle.rows.specs.Rows.{byteCount}
+use Rattle.numbers.specs.Numbers.{byteCount}
 use Rattle.memory.specs.Access.{lookupOf, probe}
 use Rattle.memory.proofs.Laws.{store-done, store-failed}
 use Rattle.processor.proofs.Laws.{some-bytes}

@@ -1,7 +1,7 @@
 -- `one_page` meets its contract: its difference is the sum of the definition. Assumes nothing.
 use borrow.Author.Needs.{needs}
 use Rattle.memory.specs.OnePage.{onePage}
-use Rattle.memory.proofs.PageParts.{room-left}
+use Rattle.memory.proofs.PageParts.{room-on-page}
 use Rattle.memory.proofs.one_page.one_page.Statement.{statement}
 use Rattle.memory.proofs.one_page.one_page.Tie as tie
 
@@ -13,7 +13,7 @@ sub-result c = search needs
 
 returns : tie.Need-returns
 unfolding onePage
-returns c = room-left (c .args .address) (c .args .n)
+returns c = room-on-page (c .args .address) (c .args .n)
 
 pub one-page-spec : {M : Type 1} → statement M
 one-page-spec = tie.close (tie.spec rem-result sub-result returns)

@@ -1,7 +1,7 @@
 -- `store_at` meets its contract, by the two tests. Assumes nothing.
 use mathlib.Core.Path.{_≡_, sym, _∙_}
 use borrow.Author.Needs.{needs}
-use Rattle.rows.specs.Rows.{byteCount}
+use Rattle.numbers.specs.Numbers.{byteCount}
 use Rattle.memory.specs.OnePage.{onePage}
 use Rattle.memory.proofs.OnePage.{page-not-lent, runs-off-page, lies-on-page, stored-on-page}
 use Rattle.memory.proofs.one_page.store_at.Statement.{statement}

@@ -1,6 +1,7 @@
 -- `store_within` meets its contract: bytes set in the page that is lent on are set in the whole. Assumes nothing.
 use borrow.Author.Needs.{needs}
-use Rattle.memory.proofs.PageParts.{store-part}
+use Rattle.numbers.proofs.Laws.{lies-inside, put-inside}
+use Rattle.memory.proofs.PageParts.{on-page, store-part}
 use Rattle.memory.proofs.one_page.store_within.Statement.{statement}
 use Rattle.memory.proofs.one_page.store_within.Tie as tie
 
@@ -10,26 +11,27 @@ sub-start c = search needs
 add-end : tie.Need-add-end
 add-end c = search needs
 
-sub-put-on : tie.Need-sub-put-on
-sub-put-on c = search needs
+sub-store : tie.Need-sub-store
+sub-store c = search needs
 
-part-put-on-start : tie.Need-part-put-on-start
-part-put-on-start c = search needs
+part-store-start : tie.Need-part-store-start
+part-store-start c = search needs
 
-part-put-on-end : tie.Need-part-put-on-end
-part-put-on-end c = search needs
+part-store-end : tie.Need-part-store-end
+part-store-end c = search needs
 
-put-on-requires : tie.Need-put-on-requires
-put-on-requires c κs = search needs
+store-requires : tie.Need-store-requires
+store-requires c κs = search needs
 
 same-length : tie.Need-same-length
 same-length c = search needs
 
 returns : tie.Need-returns
 returns c =
-    let after-put-on = c .before .before in
-    let start = after-put-on .before .before .before in
-    rw (after-put-on .put-on .ensures) (store-part _ _ _ _ (start .pre .inside))
+    let after-store = c .before .before in
+    let start = after-store .before .before .before in
+    let on = on-page _ _ _ (start .pre) in
+    rw (after-store .store .ensures .1, put-inside _ _ _ _ (lies-inside _ _ _ on)) (store-part _ _ _ _ (start .pre .inside))
 
 pub store-within-spec : {M : Type 1} → statement M
 store-within-spec =
@@ -37,9 +39,9 @@ store-within-spec =
     (tie.spec
     sub-start
     add-end
-    sub-put-on
-    part-put-on-start
-    part-put-on-end
-    put-on-requires
+    sub-store
+    part-store-start
+    part-store-end
+    store-requires
     same-length
     returns)

@@ -7,7 +7,7 @@ use borrow.Author.Needs.{needs}
 use Rattle.rows.specs.Rows.{byteIn}
 use Rattle.pages.specs.Pages.{spot}
 use Rattle.rows.proofs.Numbers.{Built, room, built-none, built-all, built-more}
-use Rattle.rows.proofs.Steps.{at-most-eight}
+use Rattle.numbers.proofs.Laws.{at-most-eight}
 use Rattle.rows.proofs.load.number.Statement.{statement}
 use Rattle.rows.proofs.load.number.Tie as tie
 

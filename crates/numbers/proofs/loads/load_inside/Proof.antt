@@ -1,9 +1,9 @@
--- `number_on` meets its contract: four bytes, or twice four. Assumes nothing.
+-- `load_inside` meets its contract: four bytes, or twice four. Assumes nothing.
 use native.Mathlib.Omega.{arith}
 use borrow.Author.Needs.{needs}
-use Rattle.memory.proofs.PageParts.{eight-bytes}
-use Rattle.memory.proofs.one_page.number_on.Statement.{statement}
-use Rattle.memory.proofs.one_page.number_on.Tie as tie
+use Rattle.numbers.proofs.Bytes.{eight-bytes}
+use Rattle.numbers.proofs.loads.load_inside.Statement.{statement}
+use Rattle.numbers.proofs.loads.load_inside.Tie as tie
 
 enum-told : tie.Need-enum-told
 enum-told c = search needs
@@ -37,8 +37,8 @@ returns c = rw (c .before .enum-told .given .1) (c .four .ensures .0)
 returns-2 : tie.Need-returns-2
 returns-2 c = rw (c .before .before .enum-told2 .given .1, c .before .four2 .ensures .0, c .four3 .ensures .0) (eight-bytes _ _)
 
-pub number-on-spec : {M : Type 1} → statement M
-number-on-spec =
+pub load-inside-spec : {M : Type 1} → statement M
+load-inside-spec =
     tie.close
     (tie.spec
     enum-told

@@ -2,8 +2,8 @@
 use mathlib.Core.Path.{refl}
 use native.Mathlib.Omega.{arith}
 use borrow.Author.Needs.{needs}
-use Rattle.memory.proofs.one_page.byte.Statement.{statement}
-use Rattle.memory.proofs.one_page.byte.Tie as tie
+use Rattle.numbers.proofs.loads.byte.Statement.{statement}
+use Rattle.numbers.proofs.loads.byte.Tie as tie
 
 shared-slice-read-result : tie.Need-shared-slice-read-result
 shared-slice-read-result c = search needs

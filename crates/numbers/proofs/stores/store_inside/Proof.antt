@@ -1,10 +1,10 @@
--- `put_on` meets its contract: four bytes, or twice four. Assumes nothing.
+-- `store_inside` meets its contract: four bytes, or twice four. Assumes nothing.
 use native.Mathlib.Omega.{arith}
 use borrow.Author.Needs.{needs}
-use Rattle.rows.proofs.Laws.{at-least-four}
-use Rattle.memory.proofs.PageParts.{length-put-at, put-eight}
-use Rattle.memory.proofs.one_page.put_on.Statement.{statement}
-use Rattle.memory.proofs.one_page.put_on.Tie as tie
+use Rattle.numbers.proofs.Bytes.{at-least-four}
+use Rattle.numbers.proofs.Bytes.{length-put-at, put-eight}
+use Rattle.numbers.proofs.stores.store_inside.Statement.{statement}
+use Rattle.numbers.proofs.stores.store_inside.Tie as tie
 
 put-four-requires : tie.Need-put-four-requires
 put-four-requires c κs = omega (arith, at-least-four (c .before .before .args .size))
@@ -43,8 +43,8 @@ returns-2 c =
     let after-put-four = after-enum-told2 .before .before .before .before in
     rw (after-enum-told2 .enum-told2 .given .1, after-put-four2 .put-four2 .ensures, after-put-four .put-four .ensures) (put-eight _ _ _)
 
-pub put-on-spec : {M : Type 1} → statement M
-put-on-spec =
+pub store-inside-spec : {M : Type 1} → statement M
+store-inside-spec =
     tie.close
     (tie.spec
     put-four-requires

@@ -1,9 +1,9 @@
 -- `four` meets its contract: four bytes, each below 256. Assumes nothing.
 use native.Mathlib.Omega.{arith}
 use borrow.Author.Needs.{needs}
-use Rattle.memory.proofs.PageParts.{four-bytes}
-use Rattle.memory.proofs.one_page.four.Statement.{statement}
-use Rattle.memory.proofs.one_page.four.Tie as tie
+use Rattle.numbers.proofs.Bytes.{four-bytes}
+use Rattle.numbers.proofs.loads.four.Statement.{statement}
+use Rattle.numbers.proofs.loads.four.Tie as tie
 
 byte-requires : tie.Need-byte-requires
 byte-requires c κs = search needs

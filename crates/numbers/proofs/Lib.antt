@@ -1,0 +1,3 @@
+-- Laws that belong to no one function. The crates above cite `Laws` alone.
+pub mod Laws
+mod Bytes
