@@ -1,9 +1,9 @@
 -- The fault of an access that cannot be done. Assumes nothing.
-use Rattle.memory.specs.declared.access.Access.{Access}
-use Rattle.rows.specs.declared.reach.Failure.{Failure}
-use Rattle.rows.specs.declared.reach.Failure.the-variants.{NotCanonical, NotListed, WrongKind}
-use Rattle.memory.specs.declared.access.Kind.{Kind}
-use Rattle.memory.specs.declared.access.Kind.the-variants.{UserShadow, SupervisorShadow, Ordinary}
+use Rattle.accesses.specs.declared.access.Access.{Access}
+use Rattle.accesses.specs.declared.reach.Failure.{Failure}
+use Rattle.accesses.specs.declared.reach.Failure.the-variants.{NotCanonical, NotListed, WrongKind}
+use Rattle.accesses.specs.declared.access.Kind.{Kind}
+use Rattle.accesses.specs.declared.access.Kind.the-variants.{UserShadow, SupervisorShadow, Ordinary}
 use Rattle.answers.specs.Answer.{ss, gp, pageFault}
 use Rattle.answers.specs.declared.answer.Fault.{Fault}
 

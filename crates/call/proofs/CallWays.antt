@@ -5,8 +5,8 @@ use mathlib.Core.Bool.{Bool, true, false, not, cond}
 use mathlib.Core.List.{List, [], _∷_}
 use Rattle.numbers.specs.Numbers.{byteCount}
 use Rattle.pages.specs.Pages.{Lookup}
-use Rattle.memory.specs.declared.access.Access.{Access}
-use Rattle.rows.specs.declared.reach.Failure.{Failure}
+use Rattle.accesses.specs.declared.access.Access.{Access}
+use Rattle.accesses.specs.declared.reach.Failure.{Failure}
 use Rattle.stores.specs.Stores.{tryAll, writtenAll}
 use Rattle.stores.specs.declared.Slot.{Slot}
 use Rattle.stores.specs.declared.Slot.the-variants.{Empty, Store}

@@ -6,13 +6,13 @@ use mathlib.Core.List.{List}
 use mathlib.Core.Path.{_≡_, refl, sym, _∙_}
 use native.Mathlib.Omega.{arith}
 use lib.ListN.{length}
-use Rattle.memory.specs.Access.{probe, value, written}
+use Rattle.accesses.specs.Access.{probe, value, written}
 use Rattle.memory.specs.Extends.{Extends, Places}
 use Rattle.pages.specs.Pages.{Lookup}
-use Rattle.memory.specs.declared.access.Access.{Access}
-use Rattle.rows.specs.declared.reach.Failure.the-variants.{NotCanonical, NotListed, WrongKind}
-use Rattle.rows.specs.declared.reach.Reach.{Reach}
-use Rattle.rows.specs.declared.reach.Reach.the-variants.{Ready, Blocked}
+use Rattle.accesses.specs.declared.access.Access.{Access}
+use Rattle.accesses.specs.declared.reach.Failure.the-variants.{NotCanonical, NotListed, WrongKind}
+use Rattle.accesses.specs.declared.reach.Reach.{Reach}
+use Rattle.accesses.specs.declared.reach.Reach.the-variants.{Ready, Blocked}
 use Rattle.memory.proofs.Laws.{length-written, ready-in-second, same-value, store-in-both, not-canonical}
 use Rattle.answers.specs.Blame.{blame}
 use Rattle.processor.specs.Prog.{Prog, done, stop, fetch, put, Result, ended, broken, onReach, interp, Step, settle, operate}

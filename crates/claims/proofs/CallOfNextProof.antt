@@ -6,13 +6,13 @@ use mathlib.Core.Path.{_≡_, refl, sym, _∙_, ap}
 use native.Mathlib.Omega.{arith}
 use lib.ListN.{length}
 use lib.IntN.{ℤ, pos, negsuc}
-use Rattle.memory.specs.Access.{probe, written}
+use Rattle.accesses.specs.Access.{probe, written}
 use Rattle.memory.specs.Extends.{cell}
 use Rattle.pages.specs.Pages.{Lookup}
-use Rattle.memory.specs.declared.access.Access.{Access}
-use Rattle.memory.specs.declared.access.Kind.the-variants.{Ordinary}
-use Rattle.rows.specs.declared.reach.Reach.{Reach}
-use Rattle.rows.specs.declared.reach.Reach.the-variants.{Ready, Blocked}
+use Rattle.accesses.specs.declared.access.Access.{Access}
+use Rattle.accesses.specs.declared.access.Kind.the-variants.{Ordinary}
+use Rattle.accesses.specs.declared.reach.Reach.{Reach}
+use Rattle.accesses.specs.declared.reach.Reach.the-variants.{Ready, Blocked}
 use Rattle.memory.proofs.Laws.{length-written, same-kind-probe, written-on-kind}
 use Rattle.processor.specs.Accesses.{ordinary}
 use Rattle.answers.specs.Answer.{ss, gp}

@@ -7,7 +7,7 @@ use mathlib.Core.Logic.{_⊎_, inl, inr}
 use mathlib.Core.Path.{_≡_, refl}
 use Rattle.numbers.specs.Numbers.{byteCount}
 use Rattle.pages.specs.Pages.{Lookup}
-use Rattle.memory.specs.declared.access.Access.{Access}
+use Rattle.accesses.specs.declared.access.Access.{Access}
 use Rattle.answers.specs.Answer.{ss, gp}
 use Rattle.processor.specs.Accesses.{shadow, ordinary}
 use Rattle.processor.specs.Layout.{withIp, withSp, withSsp}

@@ -9,11 +9,11 @@ use native.Mathlib.Omega.{arith}
 use lib.Dec.{eqb}
 use borrow.Author.Tests.{ne-eqb}
 use Rattle.pages.specs.Pages.{Lookup}
-use Rattle.memory.specs.declared.access.Access.{Access}
-use Rattle.rows.specs.declared.reach.Failure.{Failure}
-use Rattle.rows.specs.declared.reach.Failure.the-variants.{NotCanonical, NotListed, WrongKind}
-use Rattle.memory.specs.declared.access.Kind.{Kind}
-use Rattle.memory.specs.declared.access.Kind.the-variants.{UserShadow, SupervisorShadow, Ordinary}
+use Rattle.accesses.specs.declared.access.Access.{Access}
+use Rattle.accesses.specs.declared.reach.Failure.{Failure}
+use Rattle.accesses.specs.declared.reach.Failure.the-variants.{NotCanonical, NotListed, WrongKind}
+use Rattle.accesses.specs.declared.access.Kind.{Kind}
+use Rattle.accesses.specs.declared.access.Kind.the-variants.{UserShadow, SupervisorShadow, Ordinary}
 use Rattle.answers.specs.Blame.{notCanonical, blame}
 use Rattle.answers.specs.Answer.{vectorNumber, plainFault, ud, ss, gp, pageFault, cpNearRet, cpRstorssp}
 use Rattle.processor.specs.Prog.{Step}

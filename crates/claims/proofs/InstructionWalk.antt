@@ -8,10 +8,10 @@ use Prim.Native.Nat.{ℕ}
 use mathlib.Core.Bool.{Bool, true, false, cond}
 use mathlib.Core.List.{List}
 use mathlib.Core.Path.{_≡_, refl, sym}
-use Rattle.memory.specs.Access.{probe, written}
+use Rattle.accesses.specs.Access.{probe, written}
 use Rattle.pages.specs.Pages.{Lookup}
-use Rattle.memory.specs.declared.access.Access.{Access}
-use Rattle.rows.specs.declared.reach.Reach.the-variants.{Ready}
+use Rattle.accesses.specs.declared.access.Access.{Access}
+use Rattle.accesses.specs.declared.reach.Reach.the-variants.{Ready}
 use Rattle.answers.specs.Answer.{ud}
 use Rattle.processor.specs.State.{permitted}
 use Rattle.processor.specs.Prog.{Result, ended, broken, interp, Step, settle, operate}

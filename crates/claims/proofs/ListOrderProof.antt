@@ -4,12 +4,12 @@ use mathlib.Core.Bool.{Bool, true, false, cond, true≢false}
 use mathlib.Core.List.{List}
 use mathlib.Core.Path.{_≡_, refl, sym, _∙_}
 use lib.ListN.{length}
-use Rattle.memory.specs.Access.{probe, value, written}
+use Rattle.accesses.specs.Access.{probe, value, written}
 use Rattle.memory.specs.Extends.{Places, HoldsPages}
 use Rattle.pages.specs.Pages.{Lookup, listing}
-use Rattle.memory.specs.declared.access.Access.{Access}
-use Rattle.rows.specs.declared.reach.Reach.{Reach}
-use Rattle.rows.specs.declared.reach.Reach.the-variants.{Ready, Blocked}
+use Rattle.accesses.specs.declared.access.Access.{Access}
+use Rattle.accesses.specs.declared.reach.Reach.{Reach}
+use Rattle.accesses.specs.declared.reach.Reach.the-variants.{Ready, Blocked}
 use Rattle.pages.specs.declared.pages.Listing.the-variants.{Valid}
 use Rattle.memory.proofs.Laws.{lookup-places, same-value, alike-probe, order-free as same-cells}
 use Rattle.processor.specs.Prog.{Prog, done, stop, fetch, put, Result, onReach, interp, settle, operate}

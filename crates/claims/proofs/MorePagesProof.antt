@@ -5,7 +5,7 @@ use mathlib.Core.List.{List}
 use mathlib.Core.Path.{_≡_, refl, sym, _∙_}
 use native.Mathlib.Omega.{arith}
 use lib.ListN.{length}
-use Rattle.memory.specs.Access.{lookupOf}
+use Rattle.accesses.specs.Access.{lookupOf}
 use Rattle.memory.specs.Extends.{Extends, HoldsPages}
 use Rattle.pages.specs.Pages.{listing}
 use Rattle.pages.specs.declared.pages.Listing.the-variants.{Valid}

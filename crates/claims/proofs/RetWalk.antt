@@ -7,9 +7,9 @@ use mathlib.Core.Logic.{_⊎_, inl, inr}
 use mathlib.Core.Path.{_≡_, refl}
 use lib.Dec.{eqb}
 use Rattle.numbers.specs.Numbers.{byteCount}
-use Rattle.memory.specs.Access.{value}
+use Rattle.accesses.specs.Access.{value}
 use Rattle.pages.specs.Pages.{Lookup}
-use Rattle.memory.specs.declared.access.Access.{Access}
+use Rattle.accesses.specs.declared.access.Access.{Access}
 use Rattle.answers.specs.Answer.{ss, gp, cpNearRet}
 use Rattle.processor.specs.Accesses.{shadow, ordinary}
 use Rattle.processor.specs.Layout.{withIp, withSp, withSsp}

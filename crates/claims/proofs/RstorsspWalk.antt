@@ -5,7 +5,7 @@ use mathlib.Core.List.{List}
 use mathlib.Core.Logic.{_⊎_, inl, inr}
 use mathlib.Core.Path.{_≡_, refl}
 use lib.Dec.{eqb}
-use Rattle.memory.specs.Access.{value}
+use Rattle.accesses.specs.Access.{value}
 use Rattle.pages.specs.Pages.{Lookup}
 use Rattle.numbers.specs.declared.size.Size.the-variants.{Eight}
 use Rattle.answers.specs.Answer.{ud, gp, cpRstorssp}

@@ -7,11 +7,11 @@ use native.Mathlib.Omega.{arith}
 use lib.Dec.{ltb}
 use borrow.Author.Tests.{lt-ltb, le-ltb}
 use Rattle.numbers.specs.Numbers.{byteCount}
-use Rattle.memory.specs.Access.{load as loadAt}
+use Rattle.accesses.specs.Access.{load as loadAt}
 use Rattle.pages.specs.Pages.{Lookup}
-use Rattle.rows.specs.declared.reach.Failure.{Failure}
+use Rattle.accesses.specs.declared.reach.Failure.{Failure}
 use Rattle.numbers.specs.declared.size.Size.{Size}
-use Rattle.memory.specs.declared.load.Loaded.the-variants.{Value, Blocked as Unloaded}
+use Rattle.accesses.specs.declared.load.Loaded.the-variants.{Value, Blocked as Unloaded}
 use Rattle.answers.specs.Answer.{ud}
 use Rattle.processor.specs.State.{usable, plus, next}
 use Rattle.processor.specs.Layout.{withSsp}

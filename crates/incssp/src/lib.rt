@@ -1,6 +1,6 @@
 // INCSSPD and INCSSPQ: pop elements off the shadow stack.
 ghost use mathlib.Core.Path.{_≡_};
-ghost use Rattle.memory.specs.Access.{lookupOf};
+ghost use Rattle.accesses.specs.Access.{lookupOf};
 ghost use Rattle.processor.specs.Prog.{operate};
 ghost use Rattle.processor.specs.Outcomes.{stepOf};
 ghost use Rattle.incssp.specs.Incssp.{incssp as incsspOf};
@@ -21,14 +21,14 @@ pub fn execute(state: State, pages: &[u64], bytes: &[u8], size: Size, b: u64, sp
     let n = size.bytes();
     let ssp = state.plus(state.ssp, n * range);
     let first = state.shadow(state.ssp, size, false);
-    match first.load(pages, bytes) {
+    match memory::load(first, pages, bytes) {
         Loaded::Blocked(failure) => state.fail(processor::blame(first, failure)),
         Loaded::Value(_) => {
             if range == 0 {
                 return state.shift(ssp, state.next(span));
             }
             let last = state.shadow(state.plus(state.ssp, n * (range - 1)), size, false);
-            match last.load(pages, bytes) {
+            match memory::load(last, pages, bytes) {
                 Loaded::Blocked(failure) => state.fail(processor::blame(last, failure)),
                 Loaded::Value(_) => state.shift(ssp, state.next(span)),
             }

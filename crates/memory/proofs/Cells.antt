@@ -8,13 +8,13 @@ use lib.ListN.{length, getD, set}
 use lib.Seq.{getD-set-same, getD-set-other}
 use lib.Dec.{eqb}
 use Rattle.pages.specs.Pages.{Lookup}
-use Rattle.rows.specs.Rows.{onKind, byteIn, putByte}
+use Rattle.accesses.specs.Access.{onKind, byteIn, putByte}
 use Rattle.memory.specs.Extends.{Cell, absent, present, cellIn, cell, Places}
 use Rattle.pages.specs.declared.pages.Spot.{Spot}
 use Rattle.pages.specs.declared.pages.Spot.the-variants.{Unlisted, At}
-use Rattle.rows.specs.declared.reach.Failure.the-variants.{WrongKind}
-use Rattle.rows.specs.declared.reach.Reach.the-variants.{Ready, Blocked}
-use Rattle.rows.proofs.Laws.{length-put}
+use Rattle.accesses.specs.declared.reach.Failure.the-variants.{WrongKind}
+use Rattle.accesses.specs.declared.reach.Reach.the-variants.{Ready, Blocked}
+use Rattle.accesses.proofs.Laws.{length-put}
 
 -- ---- where a byte that an access reaches leads
 

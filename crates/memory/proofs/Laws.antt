@@ -30,7 +30,7 @@
 --     order-free                                             two valid lists of the same pages hold the same at every address
 -- Assumes nothing.
 
-pub use Rattle.memory.proofs.Answers.{load-done, load-failed, loaded-value, loaded-failure, store-done, store-failed}
+pub use Rattle.accesses.proofs.Laws.{load-done, load-failed, loaded-value, loaded-failure, store-done, store-failed}
 pub use Rattle.memory.proofs.Stored.{value-written, written-elsewhere}
 pub use Rattle.memory.proofs.TwoMemories.{length-written, length-stored}
 pub use Rattle.memory.proofs.Lookup.{lookup-places, lookup-kept}

@@ -1,6 +1,5 @@
 -- Laws that belong to no one function. The crates above cite `Laws` alone.
 pub mod Laws
-mod Answers
 mod Cells
 mod Lookup
 mod OnePage

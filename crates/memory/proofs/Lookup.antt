@@ -5,8 +5,8 @@ use mathlib.Core.List.{List}
 use native.Mathlib.Omega.{arith}
 use lib.ListN.{length, getD}
 use Rattle.pages.specs.Pages.{pageBytes, pageOf, spot}
-use Rattle.rows.proofs.Laws.{Found, behind, spot-inside}
-use Rattle.memory.specs.Access.{lookupOf}
+use Rattle.accesses.proofs.Laws.{Found, behind, spot-inside}
+use Rattle.accesses.specs.Access.{lookupOf}
 use Rattle.memory.specs.Extends.{Places}
 
 -- an address is given by its page and its offset

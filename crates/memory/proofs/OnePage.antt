@@ -12,29 +12,25 @@ use borrow.Author.Tests.{leb-true, leb-false, le-leb, le-ltb, lt-ltb}
 use Rattle.pages.specs.Address.{plus, canonical}
 use Rattle.pages.specs.Pages.{Lookup, pageBytes, pageOf, kindOf, onPage, inPage, spotFrom, spot}
 use Rattle.numbers.specs.Numbers.{byteCount}
-use Rattle.rows.specs.Rows.{andThen, scan, canonicalByte, listedByte}
-use Rattle.memory.specs.Access.{lookupOf, kindNumber, start, canonicalBytes, listedBytes, probe}
-use Rattle.rows.specs.Rows.{byteIn, number, write}
-use Rattle.memory.specs.Access.{value, load, written, store}
+use Rattle.accesses.specs.Access.{andThen, scan, canonicalByte, listedByte, lookupOf, kindNumber, start, canonicalBytes, listedBytes, probe, byteIn, number, write, value, load, written, store}
 use Rattle.numbers.specs.Numbers.{numberAt, putAt}
-use Rattle.memory.specs.OnePage.{onePage, further, OnLentPage, locatedIf, within, located, firstReach, firstLocated, onLentPage, storeAt}
+use Rattle.memory.specs.OnePage.{onePage, further, OnLentPage, locatedIf, within, located, firstReach, firstLocated, quickly, onLentPage, storeAt}
 use Rattle.pages.specs.declared.address.Width.{Width}
 use Rattle.pages.specs.declared.address.Width.the-variants.{Bits32, Bits64}
 use Rattle.pages.specs.declared.pages.Spot.{Spot}
 use Rattle.pages.specs.declared.pages.Spot.the-variants.{Unlisted, At}
 use Rattle.numbers.specs.declared.size.Size.{Size}
-use Rattle.memory.specs.declared.access.Access.{Access}
-use Rattle.rows.specs.declared.reach.Failure.the-variants.{NotCanonical}
-use Rattle.rows.specs.declared.reach.Reach.{Reach}
-use Rattle.rows.specs.declared.reach.Reach.the-variants.{Ready, Blocked}
+use Rattle.accesses.specs.declared.access.Access.{Access}
+use Rattle.accesses.specs.declared.reach.Failure.{Failure}
+use Rattle.accesses.specs.declared.reach.Failure.the-variants.{NotCanonical}
+use Rattle.accesses.specs.declared.reach.Reach.{Reach}
+use Rattle.accesses.specs.declared.reach.Reach.the-variants.{Ready, Blocked}
 use Rattle.memory.specs.declared.one_page.Located.{Located}
 use Rattle.memory.specs.declared.one_page.Located.the-variants.{Within, Across, Blocked as Unreached}
-use Rattle.memory.specs.declared.load.Loaded.the-variants.{Value}
+use Rattle.accesses.specs.declared.load.Loaded.the-variants.{Value}
 use Rattle.numbers.proofs.Laws.{at-least-four, at-most-eight}
-use Rattle.memory.proofs.Answers.{load-done, store-done}
+use Rattle.accesses.proofs.Laws.{load-done, store-done, behind, spot-page, scan-turn}
 use Rattle.memory.proofs.Cells.{reached}
-use Rattle.rows.proofs.Laws.{behind, spot-page}
-use Rattle.rows.proofs.Laws.{scan-turn}
 use Rattle.pages.proofs.Sums.{Wrapped, wrapped-plus, wrapped-start, one-on}
 
 -- ---- one page, one entry
@@ -204,6 +200,40 @@ told look a answer e = rw e (go (probe look a) refl (onePage (start a) (byteCoun
     go Ready h true one (At kind place) led = record { ready = h; one = one; kind = kind; led = led }
     go Ready h false two s led = h
     go (Blocked failure) h t one s led = h
+
+-- what the quick answer says: the same, or of `Across` nothing that trying every byte does not say
+abbrev pub QuickTold : Lookup → Access → Located → Type 0
+QuickTold look a (Within place) = Placed look a place
+QuickTold look a Across = (r : Reach) → probe look a ≡ r → locatedIf r Across ≡ located look a
+QuickTold look a (Unreached failure) = probe look a ≡ Blocked failure
+
+pub quick-told : (pages : List ℕ) (lent : ℕ) (a : Access) (answer : Located) → answer ≡ quickly (spot pages lent) a → QuickTold (spot pages lent) a answer
+unfolding quickly
+quick-told pages lent a answer e = go (onePage (start a) (byteCount (a .size))) refl answer e
+  where
+    look : Lookup
+    look = spot pages lent
+
+    as-told : (found : Located) → found ≡ located look a → QuickTold look a found
+    as-told (Within place) q = told look a (Within place) q
+    as-told Across q = λ r p. let ready = told look a Across q in ap (λ (found : Reach). locatedIf found Across) (sym p ∙ ready) ∙ q
+    as-told (Unreached failure) q = told look a (Unreached failure) q
+
+    go : (t : Bool) → onePage (start a) (byteCount (a .size)) ≡ t → (found : Located) → found ≡ cond t (firstLocated look a) Across → QuickTold look a found
+    go true one found q = as-told found (q ∙ first-located look a one (λ i h. first-byte-decides pages lent a one i h .1))
+    go false two (Within place) q = let z : _≡_ {A = ℕ} 0 1 = cc in absurd (omega arith)
+    go false two Across q = each-located look a two
+    go false two (Unreached failure) q = let z : _≡_ {A = ℕ} 0 1 = cc in absurd (omega arith)
+
+-- and back
+module _ (look : Lookup) (a : Access) where
+  pub placed-located : (place : ℕ) → Placed look a place → Within place ≡ located look a
+  unfolding located
+  placed-located place placed = rw (placed .ready, placed .one, placed .led)
+
+  pub blocked-located : (failure : Failure) → probe look a ≡ Blocked failure → Unreached failure ≡ located look a
+  unfolding located
+  blocked-located failure e = rw e
 
 -- ---- bytes in a row
 

@@ -11,13 +11,12 @@ use Rattle.pages.specs.declared.address.Width.{Width}
 use Rattle.pages.specs.declared.pages.Spot.{Spot}
 use Rattle.pages.specs.declared.pages.Spot.the-variants.{Unlisted, At}
 use Rattle.numbers.specs.Numbers.{byteCount}
-use Rattle.rows.specs.Rows.{andThen, scan, onKind, listedByte}
-use Rattle.memory.specs.Access.{kindNumber, start, canonicalBytes, listedBytes, probe, written}
+use Rattle.accesses.specs.Access.{andThen, scan, onKind, listedByte, kindNumber, start, canonicalBytes, listedBytes, probe, written}
 use Rattle.memory.specs.Extends.{cell, isListed, isKind, Places}
-use Rattle.memory.specs.declared.access.Access.{Access}
-use Rattle.rows.specs.declared.reach.Failure.the-variants.{WrongKind}
-use Rattle.rows.specs.declared.reach.Reach.{Reach}
-use Rattle.rows.specs.declared.reach.Reach.the-variants.{Ready, Blocked}
+use Rattle.accesses.specs.declared.access.Access.{Access}
+use Rattle.accesses.specs.declared.reach.Failure.the-variants.{WrongKind}
+use Rattle.accesses.specs.declared.reach.Reach.{Reach}
+use Rattle.accesses.specs.declared.reach.Reach.the-variants.{Ready, Blocked}
 use Rattle.pages.proofs.Sums.{Wrapped, wrapped-plus, wrapped-start, one-on}
 use Rattle.memory.proofs.Cells.{reached}
 use Rattle.memory.proofs.Stored.{written-elsewhere}

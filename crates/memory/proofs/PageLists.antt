@@ -7,11 +7,11 @@ use native.Mathlib.Omega.{arith}
 use lib.ListN.{length, getD, drop, length-take, length-drop}
 use lib.Seq.{getD-take, getD-drop, ext-getD}
 use Rattle.pages.specs.Pages.{pageBytes, pageOf, kindOf, onPage, anyEntry, listing, spot}
-use Rattle.memory.specs.Access.{lookupOf}
+use Rattle.accesses.specs.Access.{lookupOf}
 use Rattle.memory.specs.Extends.{Cell, absent, present, cell, Extends, pageAt, HoldsPages, Untouched}
 use Rattle.pages.specs.declared.pages.Listing.the-variants.{Valid}
 use Rattle.memory.proofs.Cells.{held, cell-at}
-use Rattle.rows.proofs.Laws.{behind}
+use Rattle.accesses.proofs.Laws.{behind}
 use Rattle.memory.proofs.Valid.{Good, valid, listed, unlisted}
 
 -- a byte of a page, among the lent bytes

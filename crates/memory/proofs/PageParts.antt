@@ -11,7 +11,7 @@ use Rattle.pages.specs.Pages.{pageBytes}
 use Rattle.numbers.specs.Numbers.{inside, numberAt, putAt}
 use Rattle.numbers.proofs.Laws.{room-left}
 use Rattle.memory.specs.OnePage.{OnLentPage}
-use Rattle.rows.proofs.Laws.{pageStart, pageLength, whole}
+use Rattle.accesses.proofs.Laws.{pageStart, pageLength, whole}
 
 -- what is left of a page, as the code has it
 pub room-on-page : (address n : ℕ) → leb n (pageBytes - address % pageBytes) ≡ leb (address % pageBytes + n) pageBytes

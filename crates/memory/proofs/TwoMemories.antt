@@ -10,22 +10,18 @@ use lib.Dec.{eqb}
 use Rattle.pages.specs.Address.{plus}
 use Rattle.pages.specs.Pages.{Lookup}
 use Rattle.numbers.specs.Numbers.{byteCount}
-use Rattle.rows.specs.Rows.{andThen, scan, onKind, listedByte}
-use Rattle.memory.specs.Access.{kindNumber, start, canonicalBytes, listedBytes, probe}
-use Rattle.rows.specs.Rows.{byteIn, number, putByte, write}
-use Rattle.memory.specs.Access.{value, loadedIf, load, written, storedIf, store}
+use Rattle.accesses.specs.Access.{andThen, scan, onKind, listedByte, kindNumber, start, canonicalBytes, listedBytes, probe, byteIn, number, putByte, write, value, loadedIf, load, written, storedIf, store}
 use Rattle.memory.specs.Extends.{cellIn, present, cell, Extends, Places}
 use Rattle.pages.specs.declared.address.Width.{Width}
 use Rattle.pages.specs.declared.pages.Spot.{Spot}
 use Rattle.pages.specs.declared.pages.Spot.the-variants.{Unlisted, At}
-use Rattle.memory.specs.declared.access.Access.{Access}
-use Rattle.rows.specs.declared.reach.Failure.the-variants.{NotCanonical, WrongKind}
-use Rattle.rows.specs.declared.reach.Reach.{Reach}
-use Rattle.rows.specs.declared.reach.Reach.the-variants.{Ready, Blocked}
-use Rattle.memory.specs.declared.load.Loaded.the-variants.{Value}
-use Rattle.memory.proofs.Answers.{load-done}
+use Rattle.accesses.specs.declared.access.Access.{Access}
+use Rattle.accesses.specs.declared.reach.Failure.the-variants.{NotCanonical, WrongKind}
+use Rattle.accesses.specs.declared.reach.Reach.{Reach}
+use Rattle.accesses.specs.declared.reach.Reach.the-variants.{Ready, Blocked}
+use Rattle.accesses.specs.declared.load.Loaded.the-variants.{Value}
+use Rattle.accesses.proofs.Laws.{load-done, length-put}
 use Rattle.memory.proofs.Cells.{reached, cell-at, cellByte, cell-byte, held, put-here, put-there, places-put}
-use Rattle.rows.proofs.Laws.{length-put}
 
 -- ---- trying
 

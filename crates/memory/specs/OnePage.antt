@@ -1,5 +1,5 @@
 -- Numbers whose bytes all lie on one page, where an access lies, and a number stored at a place. The theorem `first-byte-decides`
--- (proofs/OnePage.antt) is stated by `onePage` and `further`, the contract of `Access::locate` by `located`, that of `store_at` by
+-- (proofs/OnePage.antt) is stated by `onePage` and `further`, the contract of `locate` by `located`, that of `store_at` by
 -- `storeAt`. The others serve the contracts of private functions. Assumes nothing.
 use Prim.Native.Nat.{ℕ, _+_, _-_, _/_, _%_, _≤_}
 use mathlib.Core.Bool.{Bool, true, cond, _&&_}
@@ -9,14 +9,13 @@ use lib.Dec.{ltb, leb}
 use Rattle.pages.specs.Address.{canonical}
 use Rattle.pages.specs.Pages.{Lookup, pageBytes}
 use Rattle.numbers.specs.Numbers.{byteCount, putAt}
-use Rattle.rows.specs.Rows.{listedByte}
-use Rattle.memory.specs.Access.{kindNumber, start, probe}
+use Rattle.accesses.specs.Access.{listedByte, kindNumber, start, probe}
 use Rattle.pages.specs.declared.pages.Spot.{Spot}
 use Rattle.pages.specs.declared.pages.Spot.the-variants.{Unlisted, At}
-use Rattle.memory.specs.declared.access.Access.{Access}
-use Rattle.rows.specs.declared.reach.Failure.the-variants.{NotCanonical}
-use Rattle.rows.specs.declared.reach.Reach.{Reach}
-use Rattle.rows.specs.declared.reach.Reach.the-variants.{Ready, Blocked}
+use Rattle.accesses.specs.declared.access.Access.{Access}
+use Rattle.accesses.specs.declared.reach.Failure.the-variants.{NotCanonical}
+use Rattle.accesses.specs.declared.reach.Reach.{Reach}
+use Rattle.accesses.specs.declared.reach.Reach.the-variants.{Ready, Blocked}
 use Rattle.memory.specs.declared.one_page.Located.{Located}
 use Rattle.memory.specs.declared.one_page.Located.the-variants.{Within, Across, Blocked as Unreached}
 
@@ -63,6 +62,10 @@ firstReach look a = cond (allowed a (start a)) (listedByte look (kindNumber (a .
 -- the same, with its place
 unfoldable pub firstLocated : Lookup → Access → Located
 firstLocated look a = locatedIf (firstReach look a) (within (look (start a)))
+
+-- what the first byte tells of an access on one page; of one on two pages only that it lies across
+unfoldable pub quickly : Lookup → Access → Located
+quickly look a = cond (onePage (start a) (byteCount (a .size))) (firstLocated look a) Across
 
 -- ---- bytes stored at a place
 

@@ -4,20 +4,18 @@ ghost use mathlib.Core.Path.{_≡_};
 ghost use Prim.Native.Nat.{_+_, _<_};
 ghost use lib.ListN.{length};
 ghost use Rattle.pages.specs.Pages.{spot};
-ghost use Rattle.numbers.specs.Numbers.{byteCount};
-ghost use Rattle.rows.specs.Rows.{onKind};
-ghost use Rattle.memory.specs.Access.{lookupOf};
-ghost use Rattle.numbers.specs.Numbers.{numberAt, putAt};
-ghost use Rattle.memory.specs.OnePage.{onePage, allowed, locatedIf, within, located, firstLocated, OnLentPage, storeAt};
-use crate::access::Access;
+ghost use Rattle.numbers.specs.Numbers.{byteCount, numberAt, putAt};
+ghost use Rattle.accesses.specs.Access.{lookupOf, onKind};
+ghost use Rattle.memory.specs.OnePage.{onePage, allowed, locatedIf, within, located, quickly, OnLentPage, storeAt};
+use accesses::Access;
+use accesses::Failure;
+use accesses::Reach;
 use numbers::Held;
 use numbers::Size;
 use pages::PAGE_BYTES;
 use pages::Spot;
 use pages::canonical;
 use pages::find;
-use rows::Failure;
-use rows::Reach;
 
 // What trying an access finds, and where it lies.
 pub enum Located {
@@ -52,44 +50,45 @@ fn on_kind(kind: u64, address: u64, target: Spot) -> Located
     }
 }
 
-impl Access {
-    // Whether the address is canonical, where the access asks for that.
-    fn allows(self, address: u64) -> bool
-        ensures { λ r. ⌜ r ≡ allowed self address ⌝ }
-    {
-        if self.canonical {
-            canonical(address)
-        } else {
-            true
-        }
+// Whether the address is canonical, where the access asks for that.
+fn allows(access: Access, address: u64) -> bool
+    ensures { λ r. ⌜ r ≡ allowed access address ⌝ }
+{
+    if access.canonical {
+        canonical(address)
+    } else {
+        true
     }
+}
 
-    // Tries the first byte alone.
-    fn locate_first(self, pages: &[u64], lent: usize) -> Located
-        ensures { λ r. ⌜ r ≡ firstLocated (spot (now (pages .entry)) lent) self ⌝ }
-    {
-        let width = self.width;
-        let kind = self.kind;
-        let first = width.wrap(self.first);
-        if !self.allows(first) {
-            return Located::Blocked(Failure::NotCanonical);
-        }
-        on_kind(kind.number(), first, find(pages, lent, first))
+// Tries an access by its first byte alone, where all its bytes lie on one page. One on two pages is not tried.
+pub(crate) fn quick(access: Access, pages: &[u64], lent: usize) -> Located
+    ensures { λ r. ⌜ r ≡ quickly (spot (now (pages .entry)) lent) access ⌝ }
+{
+    let width = access.width;
+    let size = access.size;
+    let kind = access.kind;
+    let first = width.wrap(access.first);
+    if !one_page(first, size.bytes()) {
+        return Located::Across;
     }
+    if !allows(access, first) {
+        return Located::Blocked(Failure::NotCanonical);
+    }
+    on_kind(kind.number(), first, find(pages, lent, first))
+}
 
-    // Tries the access: by its first byte where all lie on one page, else byte by byte. No byte is looked at, only how many are lent.
-    pub fn locate(self, pages: &[u64], bytes: &[u8]) -> Located
-        ensures { λ r. ⌜ r ≡ located (lookupOf (now (pages .entry)) (now (bytes .entry))) self ⌝ }
-    {
-        let width = self.width;
-        let size = self.size;
-        if one_page(width.wrap(self.first), size.bytes()) {
-            return self.locate_first(pages, bytes.len());
-        }
-        match self.try_each(pages, bytes.len()) {
+// Tries an access: by its first byte where all lie on one page, else byte by byte. No byte is looked at, only how many are lent.
+pub fn locate(access: Access, pages: &[u64], bytes: &[u8]) -> Located
+    ensures { λ r. ⌜ r ≡ located (lookupOf (now (pages .entry)) (now (bytes .entry))) access ⌝ }
+{
+    match quick(access, pages, bytes.len()) {
+        Located::Within(place) => Located::Within(place),
+        Located::Blocked(failure) => Located::Blocked(failure),
+        Located::Across => match access.try_each(pages, bytes.len()) {
             Reach::Ready => Located::Across,
             Reach::Blocked(failure) => Located::Blocked(failure),
-        }
+        },
     }
 }
 

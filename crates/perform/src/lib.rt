@@ -1,6 +1,6 @@
 // A single operation: the form of an instruction, its dispatch, and the permission bits around it.
 ghost use mathlib.Core.Path.{_≡_};
-ghost use Rattle.memory.specs.Access.{lookupOf};
+ghost use Rattle.accesses.specs.Access.{lookupOf};
 ghost use Rattle.processor.specs.Prog.{operate};
 ghost use Rattle.processor.specs.Outcomes.{stepOf};
 ghost use Rattle.perform.specs.Exec.{orWrss, perform as performOf};

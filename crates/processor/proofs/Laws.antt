@@ -15,15 +15,15 @@ use mathlib.Core.Bool.{Bool, true, false, cond}
 use mathlib.Core.List.{List, [], _∷_}
 use native.Mathlib.Omega.{arith}
 use Rattle.numbers.specs.Numbers.{byteCount}
-use Rattle.memory.specs.Access.{probe, value, written, load as loadAt}
+use Rattle.accesses.specs.Access.{probe, value, written, load as loadAt}
 use Rattle.pages.specs.Pages.{Lookup}
-use Rattle.memory.specs.declared.access.Access.{Access}
-use Rattle.rows.specs.declared.reach.Failure.{Failure}
-use Rattle.rows.specs.declared.reach.Reach.{Reach}
-use Rattle.rows.specs.declared.reach.Reach.the-variants.{Ready, Blocked}
+use Rattle.accesses.specs.declared.access.Access.{Access}
+use Rattle.accesses.specs.declared.reach.Failure.{Failure}
+use Rattle.accesses.specs.declared.reach.Reach.{Reach}
+use Rattle.accesses.specs.declared.reach.Reach.the-variants.{Ready, Blocked}
 use Rattle.numbers.specs.declared.size.Size.{Size}
 use Rattle.numbers.specs.declared.size.Size.the-variants.{Four, Eight}
-use Rattle.memory.specs.declared.load.Loaded.the-variants.{Value, Blocked as Unloaded}
+use Rattle.accesses.specs.declared.load.Loaded.the-variants.{Value, Blocked as Unloaded}
 use Rattle.memory.proofs.Laws.{loaded-value, loaded-failure}
 use Rattle.stores.specs.Stores.{thenTry, tryAll, writtenAll}
 use Rattle.stores.specs.declared.Slot.{Slot}

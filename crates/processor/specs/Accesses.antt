@@ -1,9 +1,9 @@
 -- The accesses that the processor makes (docs/RULES.md, "Reaching a byte"). Assumes nothing.
 use Prim.Native.Nat.{ℕ}
 use mathlib.Core.Bool.{Bool, cond}
-use Rattle.memory.specs.declared.access.Access.{Access}
-use Rattle.memory.specs.declared.access.Kind.{Kind}
-use Rattle.memory.specs.declared.access.Kind.the-variants.{UserShadow, SupervisorShadow, Ordinary}
+use Rattle.accesses.specs.declared.access.Access.{Access}
+use Rattle.accesses.specs.declared.access.Kind.{Kind}
+use Rattle.accesses.specs.declared.access.Kind.the-variants.{UserShadow, SupervisorShadow, Ordinary}
 use Rattle.numbers.specs.declared.size.Size.{Size}
 use Rattle.processor.specs.State.{isLong, widthOf, userMode}
 use Rattle.processor.specs.declared.state.State.{State}

@@ -7,7 +7,7 @@ use lib.Dec.{eqb, ltb}
 use Rattle.pages.specs.Pages.{Lookup, listing}
 use Rattle.pages.specs.declared.pages.Listing.{Listing}
 use Rattle.pages.specs.declared.pages.Listing.the-variants.{Valid, BadLength, BadKind, BadAddress, Repeated}
-use Rattle.memory.specs.Access.{lookupOf}
+use Rattle.accesses.specs.Access.{lookupOf}
 use Rattle.processor.specs.State.{inRange}
 use Rattle.processor.specs.Prog.{Step}
 use Rattle.answers.specs.declared.answer.Answer.{Answer}

@@ -2,7 +2,7 @@
 ghost use mathlib.Core.Path.{_≡_};
 ghost use Prim.Native.Nat.{_+_, _*_, _/_, _<_};
 ghost use lib.ListN.{length};
-ghost use Rattle.memory.specs.Access.{lookupOf};
+ghost use Rattle.accesses.specs.Access.{lookupOf};
 ghost use Rattle.instructions.specs.Instruction.{instructionAt};
 ghost use Rattle.perform.specs.Codes.{codes};
 ghost use Rattle.replay.specs.Run.{inputOf, runFrom, runOf, replayed};

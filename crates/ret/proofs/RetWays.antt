@@ -6,10 +6,10 @@ use mathlib.Core.List.{List}
 use lib.Dec.{eqb}
 use borrow.Author.Tests.{eq-eqb, ne-eqb}
 use Rattle.numbers.specs.Numbers.{byteCount}
-use Rattle.memory.specs.Access.{load as loadAt}
+use Rattle.accesses.specs.Access.{load as loadAt}
 use Rattle.pages.specs.Pages.{Lookup}
-use Rattle.rows.specs.declared.reach.Failure.{Failure}
-use Rattle.memory.specs.declared.load.Loaded.the-variants.{Value, Blocked as Unloaded}
+use Rattle.accesses.specs.declared.reach.Failure.{Failure}
+use Rattle.accesses.specs.declared.load.Loaded.the-variants.{Value, Blocked as Unloaded}
 use Rattle.answers.specs.Answer.{ss, gp, cpNearRet}
 use Rattle.processor.specs.State.{enabled, plus}
 use Rattle.processor.specs.Layout.{withIp, withSp, withSsp}

@@ -1,6 +1,6 @@
 // Near RET: back to the address on top of the stack.
 ghost use mathlib.Core.Path.{_≡_};
-ghost use Rattle.memory.specs.Access.{lookupOf};
+ghost use Rattle.accesses.specs.Access.{lookupOf};
 ghost use Rattle.processor.specs.Prog.{interp, operate};
 ghost use Rattle.processor.specs.Outcomes.{stepOf};
 ghost use Rattle.processor.specs.Popped.{resultOf};
@@ -23,7 +23,7 @@ fn new_ssp(state: State, pages: &[u64], bytes: &[u8], target: u64) -> Popped
     }
     let size = pushed(state);
     let access = state.shadow(state.ssp, size, false);
-    match access.load(pages, bytes) {
+    match memory::load(access, pages, bytes) {
         Loaded::Blocked(failure) => Popped::Failed(processor::blame(access, failure)),
         Loaded::Value(frame) => {
             if frame == target {
@@ -44,7 +44,7 @@ pub fn execute(state: State, pages: &[u64], bytes: &[u8], count: u64) -> Outcome
     }
     let size = pushed(state);
     let access = state.ordinary(state.sp, size, false);
-    match access.load(pages, bytes) {
+    match memory::load(access, pages, bytes) {
         Loaded::Blocked(failure) => state.fail(processor::blame(access, failure)),
         Loaded::Value(target) => match new_ssp(state, pages, bytes, target) {
             Popped::Failed(fault) => state.fail(fault),

@@ -5,11 +5,11 @@ use mathlib.Core.Bool.{true, false}
 use mathlib.Core.List.{List}
 use lib.Dec.{eqb}
 use borrow.Author.Tests.{eq-eqb, ne-eqb}
-use Rattle.memory.specs.Access.{written, load as loadAt}
+use Rattle.accesses.specs.Access.{written, load as loadAt}
 use Rattle.pages.specs.Pages.{Lookup}
-use Rattle.rows.specs.declared.reach.Failure.{Failure}
+use Rattle.accesses.specs.declared.reach.Failure.{Failure}
 use Rattle.numbers.specs.declared.size.Size.the-variants.{Eight}
-use Rattle.memory.specs.declared.load.Loaded.the-variants.{Value, Blocked as Unloaded}
+use Rattle.accesses.specs.declared.load.Loaded.the-variants.{Value, Blocked as Unloaded}
 use Rattle.memory.proofs.Laws.{loaded-value}
 use Rattle.answers.specs.Answer.{ud, gp, cpRstorssp}
 use Rattle.processor.specs.State.{usable, longBit, plus, next}

@@ -1,6 +1,6 @@
 // RSTORSSP: restore the saved shadow stack pointer, by the token at an address.
 ghost use mathlib.Core.Path.{_≡_};
-ghost use Rattle.memory.specs.Access.{lookupOf};
+ghost use Rattle.accesses.specs.Access.{lookupOf};
 ghost use Rattle.processor.specs.Prog.{operate};
 ghost use Rattle.processor.specs.Outcomes.{stepOf};
 ghost use Rattle.processor.specs.Bits.{bit};
@@ -60,14 +60,14 @@ pub fn execute(state: State, pages: &[u64], bytes: &mut [u8], a: u64, span: u64)
         return state.fail(processor::fault(Vector::Protection));
     }
     let access = state.shadow(a, Size::Eight, true);
-    match access.load(pages, bytes) {
+    match memory::load(access, pages, bytes) {
         Loaded::Blocked(failure) => state.fail(processor::blame(access, failure)),
         Loaded::Value(token) => {
             if !good_token(state, a, token) {
                 return state.fail(processor::control_fault(4));
             }
             let previous = state.plus(state.ssp, state.long_bit() + 2);
-            let reach = access.store(pages, bytes, previous);
+            let reach = memory::store(access, pages, bytes, previous);
             let flags = restored_flags(state.flags, token);
             state.restore(a, flags, state.next(span))
         }

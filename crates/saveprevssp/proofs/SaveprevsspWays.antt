@@ -5,12 +5,12 @@ use mathlib.Core.Bool.{true, false, not, _&&_}
 use mathlib.Core.List.{List, [], _∷_}
 use lib.Dec.{eqb}
 use borrow.Author.Tests.{eq-eqb, ne-eqb}
-use Rattle.memory.specs.Access.{load as loadAt}
+use Rattle.accesses.specs.Access.{load as loadAt}
 use Rattle.pages.specs.Pages.{Lookup}
-use Rattle.memory.specs.declared.access.Access.{Access}
-use Rattle.rows.specs.declared.reach.Failure.{Failure}
+use Rattle.accesses.specs.declared.access.Access.{Access}
+use Rattle.accesses.specs.declared.reach.Failure.{Failure}
 use Rattle.numbers.specs.declared.size.Size.the-variants.{Four, Eight}
-use Rattle.memory.specs.declared.load.Loaded.the-variants.{Value, Blocked as Unloaded}
+use Rattle.accesses.specs.declared.load.Loaded.the-variants.{Value, Blocked as Unloaded}
 use Rattle.stores.specs.Stores.{tryAll, writtenAll}
 use Rattle.stores.specs.declared.Slot.{Slot}
 use Rattle.stores.specs.declared.Slot.the-variants.{Empty, Store}

@@ -1,6 +1,6 @@
 // SAVEPREVSSP: leave a restore token on the previous shadow stack.
 ghost use mathlib.Core.Path.{_≡_};
-ghost use Rattle.memory.specs.Access.{lookupOf};
+ghost use Rattle.accesses.specs.Access.{lookupOf};
 ghost use Rattle.processor.specs.Prog.{interp, operate};
 ghost use Rattle.processor.specs.Outcomes.{stepOf};
 ghost use Rattle.saveprevssp.specs.Saveprevssp.{carry as carryOf, popHole, newTop, savedToken, leaveToken, saveprevssp as saveprevsspOf};
@@ -27,7 +27,7 @@ fn pop_hole(state: State, pages: &[u64], bytes: &[u8], top: u64) -> Popped
     ensures { λ r. ⌜ resultOf r (now (bytes .entry)) ≡ interp (lookupOf (now (pages .entry)) (now (bytes .entry))) (popHole state top) (now (bytes .entry)) ⌝ }
 {
     let access = state.shadow(top, Size::Four, false);
-    match access.load(pages, bytes) {
+    match memory::load(access, pages, bytes) {
         Loaded::Blocked(failure) => Popped::Failed(processor::blame(access, failure)),
         Loaded::Value(hole) => {
             if hole == 0 {
@@ -103,7 +103,7 @@ pub fn execute(state: State, pages: &[u64], bytes: &mut [u8], span: u64) -> Outc
         return state.fail(processor::fault(Vector::Protection));
     }
     let access = state.shadow(state.ssp, Size::Eight, false);
-    match access.load(pages, bytes) {
+    match memory::load(access, pages, bytes) {
         Loaded::Blocked(failure) => state.fail(processor::blame(access, failure)),
         Loaded::Value(token) => leave_token(state, pages, bytes, token, span),
     }

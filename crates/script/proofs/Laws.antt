@@ -11,9 +11,9 @@ use lib.Seq.{drop-cons, take-at, length-take-le, take-suc, take-suc-set, getD-dr
 use lib.Dec.{leb, lit<}
 use Rattle.pages.specs.Address.{plus}
 use Rattle.pages.specs.Pages.{Lookup}
-use Rattle.rows.specs.Rows.{andThen, scan, putByte, write}
-use Rattle.rows.specs.declared.reach.Reach.{Reach}
-use Rattle.rows.specs.declared.reach.Reach.the-variants.{Ready}
+use Rattle.accesses.specs.Access.{andThen, scan, putByte, write}
+use Rattle.accesses.specs.declared.reach.Reach.{Reach}
+use Rattle.accesses.specs.declared.reach.Reach.the-variants.{Ready}
 use Rattle.pages.specs.declared.address.Width.the-variants.{Bits64}
 use Rattle.script.specs.Line.{spelling, digitOf, valueFrom, FirstFits, Numbers}
 use Rattle.script.specs.Lent.{lentByte, Fresh, entriesOf, pageListOf, Bounded}

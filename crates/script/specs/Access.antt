@@ -8,14 +8,14 @@ use lib.Dec.{eqb}
 use Rattle.pages.specs.Address.{modulus}
 use Rattle.pages.specs.Pages.{Lookup}
 use Rattle.numbers.specs.Numbers.{byteCount}
-use Rattle.memory.specs.Access.{kindNumber}
+use Rattle.accesses.specs.Access.{kindNumber}
 use Rattle.pages.specs.declared.address.Width.{Width}
-use Rattle.memory.specs.declared.access.Kind.{Kind}
+use Rattle.accesses.specs.declared.access.Kind.{Kind}
 use Rattle.numbers.specs.declared.size.Size.{Size}
-use Rattle.memory.specs.declared.access.Access.{Access}
-use Rattle.rows.specs.declared.reach.Failure.the-variants.{NotListed}
-use Rattle.rows.specs.declared.reach.Reach.{Reach}
-use Rattle.rows.specs.declared.reach.Reach.the-variants.{Ready, Blocked}
+use Rattle.accesses.specs.declared.access.Access.{Access}
+use Rattle.accesses.specs.declared.reach.Failure.the-variants.{NotListed}
+use Rattle.accesses.specs.declared.reach.Reach.{Reach}
+use Rattle.accesses.specs.declared.reach.Reach.the-variants.{Ready, Blocked}
 use Rattle.pages.specs.declared.pages.Spot.{Spot}
 use Rattle.pages.specs.declared.pages.Spot.the-variants.{Unlisted, At}
 

@@ -8,7 +8,7 @@ ghost use mathlib.Core.Path.{_≡_};
 ghost use Prim.Native.Nat.{_≤_};
 ghost use lib.ListN.{length, take};
 ghost use Rattle.pages.specs.Pages.{spot};
-ghost use Rattle.rows.specs.Rows.{scan, putByte, write};
+ghost use Rattle.accesses.specs.Access.{scan, putByte, write};
 ghost use Rattle.pages.specs.declared.address.Width.the-variants.{Bits64};
 ghost use Rattle.script.specs.Line.{Numbers};
 ghost use Rattle.script.specs.Access.{IsKind, IsWidth, IsSize, IsAccess, anyByte};
@@ -242,14 +242,14 @@ fn answer_find(address: u64, pages: &[u64], lent: usize) {
 }
 
 fn answer_load(access: Access, pages: &[u64], bytes: &[u8]) {
-    match access.load(pages, bytes) {
+    match memory::load(access, pages, bytes) {
         Loaded::Value(value) => print_with(b"value ", value),
         Loaded::Blocked(failure) => print_failure(failure),
     }
 }
 
 fn answer_store(access: Access, value: u64, fill: Fill, pages: &[u64], bytes: &mut [u8]) {
-    match access.store(pages, bytes, value) {
+    match memory::store(access, pages, bytes, value) {
         Reach::Ready => print(b"stored"),
         Reach::Blocked(failure) => print_failure(failure),
     }

@@ -2,10 +2,10 @@
 use Prim.Native.Nat.{ℕ, _-_, _^_}
 use mathlib.Core.Path.{_≡_}
 use Rattle.pages.specs.Pages.{Lookup}
-use Rattle.memory.specs.Access.{probe}
+use Rattle.accesses.specs.Access.{probe}
 use Rattle.memory.specs.OnePage.{located}
-use Rattle.memory.specs.declared.access.Access.{Access}
-use Rattle.rows.specs.declared.reach.Reach.the-variants.{Ready as Reached}
+use Rattle.accesses.specs.declared.access.Access.{Access}
+use Rattle.accesses.specs.declared.reach.Reach.the-variants.{Ready as Reached}
 use Rattle.memory.specs.declared.one_page.Located.the-variants.{Within}
 
 -- stands where no place was noted

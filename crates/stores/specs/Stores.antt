@@ -2,10 +2,10 @@
 use Prim.Native.Nat.{ℕ}
 use mathlib.Core.List.{List, [], _∷_}
 use Rattle.pages.specs.Pages.{Lookup}
-use Rattle.memory.specs.Access.{probe, written}
-use Rattle.memory.specs.declared.access.Access.{Access}
-use Rattle.rows.specs.declared.reach.Reach.{Reach}
-use Rattle.rows.specs.declared.reach.Reach.the-variants.{Ready, Blocked}
+use Rattle.accesses.specs.Access.{probe, written}
+use Rattle.accesses.specs.declared.access.Access.{Access}
+use Rattle.accesses.specs.declared.reach.Reach.{Reach}
+use Rattle.accesses.specs.declared.reach.Reach.the-variants.{Ready, Blocked}
 use Rattle.stores.specs.declared.Slot.{Slot}
 use Rattle.stores.specs.declared.Slot.the-variants.{Empty, Store}
 use Rattle.stores.specs.declared.Stored.{Stored}

@@ -1,7 +1,7 @@
 // Up to eight stores of one operation, as a list: all are tried in their order before any is made, so that the first that cannot be
 // done leaves every byte as it was.
 ghost use mathlib.Core.Path.{_≡_};
-ghost use Rattle.memory.specs.Access.{lookupOf, written};
+ghost use Rattle.accesses.specs.Access.{lookupOf, written};
 ghost use Rattle.stores.specs.Stores.{tryAll, writtenAll, leftBy};
 ghost use Rattle.stores.specs.Places.{Ready};
 use memory::Access;
@@ -34,7 +34,7 @@ fn make(access: Access, value: u64, place: usize, pages: &[u64], bytes: &mut [u8
     ensures { λ _. ⌜ now (bytes .exit) ≡ written (lookupOf (now (pages .entry)) (now (bytes .entry))) access value (now (bytes .entry)) ⌝ }
 {
     if place == NO_PLACE {
-        let reach = access.store(pages, bytes, value);
+        let reach = memory::store(access, pages, bytes, value);
         return;
     }
     let size = access.size;
@@ -53,7 +53,7 @@ pub fn store_all(slots: [Slot; SLOTS], pages: &[u64], bytes: &mut [u8]) -> Store
         let slot = slots[tried];
         match slot {
             Slot::Empty => break,
-            Slot::Store(access, _) => match access.locate(pages, bytes) {
+            Slot::Store(access, _) => match memory::locate(access, pages, bytes) {
                 Located::Within(place) => places[tried] = place,
                 Located::Across => {}
                 Located::Blocked(failure) => return Stored::NoneStored(access, failure),

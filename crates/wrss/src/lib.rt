@@ -1,6 +1,6 @@
 // WRSSD and WRSSQ: write to the shadow stack.
 ghost use mathlib.Core.Path.{_≡_};
-ghost use Rattle.memory.specs.Access.{lookupOf};
+ghost use Rattle.accesses.specs.Access.{lookupOf};
 ghost use Rattle.processor.specs.Prog.{operate};
 ghost use Rattle.processor.specs.Outcomes.{stepOf};
 ghost use Rattle.wrss.specs.Wrss.{wrss as wrssOf};
@@ -34,7 +34,7 @@ pub fn execute(
         return state.fail(processor::fault(Vector::Protection));
     }
     let access = state.shadow(a, size, true);
-    match access.store(pages, bytes, b) {
+    match memory::store(access, pages, bytes, b) {
         Reach::Blocked(failure) => state.fail(processor::blame(access, failure)),
         Reach::Ready => state.complete(state.next(span)),
     }

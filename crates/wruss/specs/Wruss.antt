@@ -3,8 +3,8 @@ use Prim.Native.Nat.{ℕ, _%_}
 use mathlib.Core.Bool.{Bool, true, not, _&&_}
 use lib.Dec.{eqb}
 use Rattle.numbers.specs.Numbers.{byteCount}
-use Rattle.memory.specs.declared.access.Access.{Access}
-use Rattle.memory.specs.declared.access.Kind.the-variants.{UserShadow}
+use Rattle.accesses.specs.declared.access.Access.{Access}
+use Rattle.accesses.specs.declared.access.Kind.the-variants.{UserShadow}
 use Rattle.numbers.specs.declared.size.Size.{Size}
 use Rattle.answers.specs.Answer.{ud, gp}
 use Rattle.processor.specs.State.{isLong, widthOf, next}

@@ -1,6 +1,6 @@
 // WRUSSD and WRUSSQ: the kernel's write to a user's shadow stack.
 ghost use mathlib.Core.Path.{_≡_};
-ghost use Rattle.memory.specs.Access.{lookupOf};
+ghost use Rattle.accesses.specs.Access.{lookupOf};
 ghost use Rattle.processor.specs.Prog.{operate};
 ghost use Rattle.processor.specs.Outcomes.{stepOf};
 ghost use Rattle.wruss.specs.Wruss.{recognised as recognisedOf, userStore, wruss as wrussOf};
@@ -53,7 +53,7 @@ pub fn execute(
         return state.fail(processor::fault(Vector::Protection));
     }
     let access = user_store(state, a, size);
-    match access.store(pages, bytes, b) {
+    match memory::store(access, pages, bytes, b) {
         Reach::Blocked(failure) => state.fail(processor::blame(access, failure)),
         Reach::Ready => state.complete(state.next(span)),
     }

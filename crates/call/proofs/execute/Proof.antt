@@ -5,7 +5,7 @@ use mathlib.Core.List.{List}
 use borrow.Author.Tests.{not-true, not-false}
 use borrow.Author.Needs.{needs}
 use Rattle.pages.specs.Pages.{Lookup}
-use Rattle.memory.specs.Access.{lookupOf}
+use Rattle.accesses.specs.Access.{lookupOf}
 use Rattle.stores.specs.Stores.{tryAll, writtenAll, leftBy}
 use Rattle.stores.specs.declared.Slot.{Slot}
 use Rattle.targets.specs.Targets.{inCode, runsPast}

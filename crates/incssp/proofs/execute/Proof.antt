@@ -6,7 +6,7 @@ use native.Mathlib.Omega.{arith}
 use borrow.Author.Tests.{not-true, not-false}
 use borrow.Author.Needs.{needs}
 use Rattle.numbers.specs.Numbers.{byteCount}
-use Rattle.memory.specs.Access.{lookupOf, load as loadAt}
+use Rattle.accesses.specs.Access.{lookupOf, load as loadAt}
 use Rattle.processor.specs.State.{usable, plus}
 use Rattle.processor.specs.Accesses.{shadow}
 use Rattle.processor.proofs.Laws.{product}

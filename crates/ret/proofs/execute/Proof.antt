@@ -5,8 +5,8 @@ use mathlib.Core.Bool.{false}
 use borrow.Author.Tests.{not-true, not-false}
 use borrow.Author.Needs.{needs}
 use Rattle.pages.specs.Pages.{Lookup}
-use Rattle.memory.specs.Access.{lookupOf, load as loadAt}
-use Rattle.memory.specs.declared.access.Access.{Access}
+use Rattle.accesses.specs.Access.{lookupOf, load as loadAt}
+use Rattle.accesses.specs.declared.access.Access.{Access}
 use Rattle.processor.specs.Accesses.{ordinary}
 use Rattle.processor.specs.Prog.{Result, interp}
 use Rattle.processor.specs.Popped.{resultOf}

@@ -5,7 +5,7 @@ use native.Mathlib.Omega.{arith}
 use borrow.Author.Tests.{not-true, not-false}
 use borrow.Author.Needs.{needs}
 use Rattle.processor.proofs.Laws.{long-small}
-use Rattle.memory.specs.Access.{lookupOf, load as loadAt}
+use Rattle.accesses.specs.Access.{lookupOf, load as loadAt}
 use Rattle.numbers.specs.declared.size.Size.the-variants.{Eight}
 use Rattle.memory.proofs.Laws.{loaded-value, store-done}
 use Rattle.processor.specs.State.{usable}

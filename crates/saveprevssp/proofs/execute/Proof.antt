@@ -3,8 +3,8 @@ use mathlib.Core.Path.{_≡_, sym, _∙_}
 use mathlib.Core.Bool.{true, false}
 use borrow.Author.Tests.{not-true, not-false}
 use borrow.Author.Needs.{needs}
-use Rattle.memory.specs.Access.{lookupOf, load as loadAt}
-use Rattle.memory.specs.declared.access.Access.{Access}
+use Rattle.accesses.specs.Access.{lookupOf, load as loadAt}
+use Rattle.accesses.specs.declared.access.Access.{Access}
 use Rattle.numbers.specs.declared.size.Size.the-variants.{Eight}
 use Rattle.processor.specs.State.{usable}
 use Rattle.processor.specs.Accesses.{shadow}

@@ -7,7 +7,7 @@ use native.Mathlib.Omega.{arith}
 use borrow.Author.Tests.{not-true, not-false}
 use borrow.Author.Needs.{needs}
 use Rattle.pages.specs.Pages.{Lookup}
-use Rattle.memory.specs.Access.{lookupOf}
+use Rattle.accesses.specs.Access.{lookupOf}
 use Rattle.stores.specs.Stores.{tryAll, writtenAll, leftBy}
 use Rattle.stores.specs.declared.Slot.{Slot}
 use Rattle.processor.specs.State.{plus}

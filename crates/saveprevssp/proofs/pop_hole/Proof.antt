@@ -2,9 +2,9 @@
 use mathlib.Core.Path.{_≡_, sym, _∙_}
 use mathlib.Core.Bool.{false}
 use borrow.Author.Needs.{needs}
-use Rattle.memory.specs.Access.{lookupOf, load as loadAt}
+use Rattle.accesses.specs.Access.{lookupOf, load as loadAt}
 use Rattle.numbers.specs.declared.size.Size.the-variants.{Four}
-use Rattle.memory.specs.declared.access.Access.{Access}
+use Rattle.accesses.specs.declared.access.Access.{Access}
 use Rattle.processor.specs.State.{plus}
 use Rattle.processor.specs.Accesses.{shadow}
 use Rattle.saveprevssp.proofs.SaveprevsspWays.{hole-blocked, hole-filled, hole-popped}

@@ -2,7 +2,7 @@
 use mathlib.Core.Path.{_≡_, refl, sym, _∙_}
 use borrow.Author.Needs.{needs}
 use Rattle.pages.specs.Pages.{spot}
-use Rattle.rows.specs.Rows.{scan}
+use Rattle.accesses.specs.Access.{scan}
 use Rattle.pages.specs.declared.address.Width.the-variants.{Bits64}
 use Rattle.script.specs.Access.{anyByte}
 use Rattle.script.proofs.Laws.{scan-turn, scan-end}

@@ -3,7 +3,7 @@ use mathlib.Core.Path.{_≡_, refl, sym, _∙_}
 use lib.ListN.{length}
 use borrow.Author.Needs.{needs}
 use Rattle.pages.specs.Pages.{spot}
-use Rattle.rows.specs.Rows.{write}
+use Rattle.accesses.specs.Access.{write}
 use Rattle.pages.specs.declared.address.Width.the-variants.{Bits64}
 use Rattle.script.proofs.Laws.{write-turn, write-end}
 use Rattle.script.proofs.set_word.Statement.{statement}

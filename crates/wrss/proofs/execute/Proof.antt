@@ -5,7 +5,7 @@ use mathlib.Core.Bool.{true}
 use borrow.Author.Tests.{not-true, not-false}
 use borrow.Author.Needs.{needs}
 use Rattle.numbers.specs.Numbers.{byteCount}
-use Rattle.memory.specs.Access.{lookupOf, probe}
+use Rattle.accesses.specs.Access.{lookupOf, probe}
 use Rattle.memory.proofs.Laws.{store-done, store-failed}
 use Rattle.processor.specs.State.{usable}
 use Rattle.processor.specs.Accesses.{shadow}

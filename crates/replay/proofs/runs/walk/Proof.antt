@@ -4,7 +4,7 @@ use mathlib.Core.Path.{_≡_, refl, sym, _∙_}
 use native.Mathlib.Omega.{arith}
 use lib.ListN.{length}
 use borrow.Author.Needs.{needs}
-use Rattle.memory.specs.Access.{lookupOf}
+use Rattle.accesses.specs.Access.{lookupOf}
 use Rattle.memory.proofs.Laws.{lookup-kept}
 use Rattle.replay.proofs.runs.walk.Tie as tie
 use Rattle.processor.specs.Outcomes.{stepOf}

@@ -1,0 +1,7 @@
+-- Laws that belong to no one function. The crates above cite `Laws` alone.
+pub mod Laws
+mod Answers
+mod Numbers
+mod Parts
+mod Spots
+mod Steps
