@@ -77,7 +77,7 @@ probe look a = andThen (canonicalBytes a) (listedBytes look a)
 
 -- ---- loading
 
--- the byte at a place, 0 where there is none: an access that is ready has no such byte
+-- the byte at a place. 0 stands for no byte; every byte of an access that is ready is there
 abbrev pub byteIn : List ℕ → Spot → ℕ
 byteIn bytes Unlisted = 0
 byteIn bytes (At kind place) = getD bytes place 0

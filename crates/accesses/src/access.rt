@@ -57,7 +57,7 @@ impl Access {
         }
     }
 
-    // Tries every byte by itself.
+    // Tries every byte by itself. `lent` is how many bytes are lent; none is looked at.
     pub fn try_each(self, pages: &[u64], lent: usize) -> Reach
         ensures { λ r. ⌜ r ≡ probeOf (spot (now (pages .entry)) lent) self ⌝ }
     {

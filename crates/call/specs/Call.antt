@@ -11,7 +11,7 @@ use Rattle.processor.specs.Prog.{Prog, done, _>>=_, _>>_, store, unless, onlyIf
 use Rattle.processor.specs.declared.state.State.{State}
 use Rattle.targets.specs.Targets.{inCode, pushed, runsPast}
 
--- the shadow stack is pushed on where it is enabled and the call is of a form that makes a frame
+-- a frame is pushed where the shadow stack is enabled and the call's form makes one
 unfoldable pub pushesFrame : State → Bool → Bool
 pushesFrame s framed = enabled s && framed
 

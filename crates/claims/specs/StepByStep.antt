@@ -16,7 +16,7 @@ use Rattle.replay.specs.declared.steps.Tested.the-variants.{Passed}
 abbrev pub nextInput : Input → Step → Instruction → Input
 nextInput given before i = withWords (withPages (withState given (before .state)) (given .pages) (before .bytes)) (alone i)
 
--- k steps of the listed instructions, each taken by `single`
+-- k steps of the listed instructions, each taken by `single`; past the end of the list the words count as 0, which is refusal 6
 unfoldable pub stepping : (Input → Step) → Input → ℕ → Step
 stepping single given zero = record { answer = Completed; state = given .state; bytes = given .bytes }
 stepping single given (suc k) = single (nextInput given (stepping single given k) (listed given k))
@@ -27,6 +27,6 @@ abbrev pub StepByStepInRange : Type 0
 StepByStepInRange = (set : InstructionSet) (given : Input) → check given ≡ Passed
     → (k : ℕ) → ((j : ℕ) → j < k → inRange (after set given j .state) ≡ true) → stepping (step set) given k ≡ after set given k
 
--- Of the codes that are built they do. Each step is `stepped`, as the contract of the public one says: by the set of its own input.
+-- Of the codes that are built they do, so nothing is asked of them. `stepped` is what the contract of the public step cites.
 abbrev pub StepByStep : Type 0
 StepByStep = (given : Input) → check given ≡ Passed → (k : ℕ) → stepping stepped given k ≡ after (built given) given k

@@ -14,7 +14,7 @@ use Rattle.pages.specs.Pages.{Lookup, pageBytes, pageOf, kindOf, onPage, inPage
 use Rattle.numbers.specs.Numbers.{byteCount}
 use Rattle.accesses.specs.Access.{andThen, scan, canonicalByte, listedByte, lookupOf, kindNumber, start, canonicalBytes, listedBytes, probe, byteIn, number, write, value, load, written, store}
 use Rattle.numbers.specs.Numbers.{numberAt, putAt}
-use Rattle.memory.specs.OnePage.{onePage, further, OnLentPage, locatedIf, within, located, firstReach, firstLocated, quickly, onLentPage, storeAt}
+use Rattle.memory.specs.OnePage.{onePage, further, PageHolds, locatedIf, within, located, firstReach, firstLocated, quickly, onLentPage, storeAt}
 use Rattle.pages.specs.declared.address.Width.{Width}
 use Rattle.pages.specs.declared.address.Width.the-variants.{Bits32, Bits64}
 use Rattle.pages.specs.declared.pages.Spot.{Spot}
@@ -276,9 +276,9 @@ module _ (pages : List ℕ) (lent : ℕ) (a : Access) (place : ℕ) (placed : Pl
   }
 
   -- the page is lent whole, and the bytes are on it
-  pub on-lent-page : OnLentPage lent place (byteCount (a .size))
+  pub page-holds : PageHolds lent place (byteCount (a .size))
   unfolding onePage
-  on-lent-page =
+  page-holds =
       let found = behind pages lent (start a) (placed .kind) place (placed .led) in
       let inside : start a % pageBytes + byteCount (a .size) ≤ pageBytes = leb-true _ _ (placed .one) in
       record { lent-whole = spot-page pages lent (start a) (placed .kind) place (placed .led); inside = omega arith }
@@ -299,23 +299,27 @@ module _ (pages : List ℕ) (lent : ℕ) (a : Access) (place : ℕ) (placed : Pl
 
 -- ---- bytes stored at any place
 
-pub lies-on-page : (lent place n : ℕ) → place / pageBytes < lent / pageBytes → onePage place n ≡ true → OnLentPage lent place n
+pub lies-on-page : (lent place n : ℕ) → place / pageBytes < lent / pageBytes → onePage place n ≡ true → PageHolds lent place n
 unfolding onePage
 lies-on-page lent place n whole one = record { lent-whole = omega arith; inside = leb-true _ _ one }
 
+module _ (lent place n : ℕ) where
+  pub page-not-lent : lent / pageBytes ≤ place / pageBytes → onLentPage lent place n ≡ false
+  unfolding onLentPage
+  page-not-lent h = rw (le-ltb (place / pageBytes) (lent / pageBytes) h)
+
+  pub by-its-end : place / pageBytes < lent / pageBytes → (t : Bool) → onePage place n ≡ t → onLentPage lent place n ≡ t
+  unfolding onLentPage
+  by-its-end whole t e = rw (lt-ltb (place / pageBytes) (lent / pageBytes) whole) e
+
 module _ (bytes : List ℕ) (place n v : ℕ) where
-  pub page-not-lent : length bytes / pageBytes ≤ place / pageBytes → storeAt place n v bytes ≡ bytes
-  unfolding storeAt onLentPage
-  page-not-lent h = rw (le-ltb (place / pageBytes) (length bytes / pageBytes) h)
+  pub not-stored : onLentPage (length bytes) place n ≡ false → storeAt place n v bytes ≡ bytes
+  unfolding storeAt
+  not-stored off = rw off
 
-  module _ (lent : place / pageBytes < length bytes / pageBytes) where
-    pub runs-off-page : onePage place n ≡ false → storeAt place n v bytes ≡ bytes
-    unfolding storeAt onLentPage
-    runs-off-page over = rw (lt-ltb (place / pageBytes) (length bytes / pageBytes) lent, over)
-
-    pub stored-on-page : onePage place n ≡ true → storeAt place n v bytes ≡ putAt place n v bytes
-    unfolding storeAt onLentPage
-    stored-on-page one = rw (lt-ltb (place / pageBytes) (length bytes / pageBytes) lent, one)
+  pub stored : onLentPage (length bytes) place n ≡ true → storeAt place n v bytes ≡ putAt place n v bytes
+  unfolding storeAt
+  stored on = rw on
 
 -- at the place that `located` tells of an access, that is what the access leaves
 pub placed-written : (pages bytes : List ℕ) (a : Access) (place : ℕ) → located (lookupOf pages bytes) a ≡ Within place
@@ -323,7 +327,7 @@ pub placed-written : (pages bytes : List ℕ) (a : Access) (place : ℕ) → loc
 unfolding lookupOf onePage
 placed-written pages bytes a place e v now kept =
     let placed = told (spot pages (length bytes)) a (Within place) (sym e) in
-    let on = on-lent-page pages (length bytes) a place placed in
-    stored-on-page now place (byteCount (a .size)) v (omega arith) (le-leb _ _ (on .inside))
+    let on = page-holds pages (length bytes) a place placed in
+    stored now place (byteCount (a .size)) v (by-its-end (length now) place (byteCount (a .size)) (omega arith) true (le-leb _ _ (on .inside)))
     ∙ sym (store-placed pages (length bytes) a place placed v now)
     ∙ store-done (spot pages (length bytes)) now a v (placed .ready)

@@ -10,7 +10,7 @@ use borrow.Rule.Slice.PartMut.{midOf, putMid, put-same, mid-len}
 use Rattle.pages.specs.Pages.{pageBytes}
 use Rattle.numbers.specs.Numbers.{inside, numberAt, putAt}
 use Rattle.numbers.proofs.Laws.{room-left}
-use Rattle.memory.specs.OnePage.{OnLentPage}
+use Rattle.memory.specs.OnePage.{PageHolds}
 use Rattle.accesses.proofs.Laws.{pageStart, pageLength, whole}
 
 -- what is left of a page, as the code has it
@@ -19,7 +19,7 @@ unfolding inside
 room-on-page address n = room-left pageBytes (address % pageBytes) n (omega arith)
 
 -- the page that is handed on holds the bytes
-pub on-page : (bytes : List ℕ) (place n : ℕ) → OnLentPage (length bytes) place n → place % pageBytes + n ≤ length (midOf (pageStart place) (pageLength place) bytes)
+pub on-page : (bytes : List ℕ) (place n : ℕ) → PageHolds (length bytes) place n → place % pageBytes + n ≤ length (midOf (pageStart place) (pageLength place) bytes)
 on-page bytes place n on = omega (arith, mid-len (pageStart place) (pageStart place + pageBytes) bytes (on .lent-whole), on .inside)
 
 -- ---- on a part of the bytes

@@ -1,5 +1,5 @@
--- What a reader of the memory's contracts must believe, to be read beside docs/RULES.md, "Reaching a byte", after accesses/specs. In this order:
--- Extends. OnePage serves the contracts of private functions, but for `located` and `storeAt` with the words that they use, by which
--- `locate` and `store_at` say what they do, and for `onePage` and `further`, by which the theorem `first-byte-decides` is stated. How to read it: pages/specs/Lib.antt.
+-- The memory's contracts are stated by accesses/specs, and by `located`, `onLentPage` and `storeAt` of OnePage with the words that they use. `onePage` and
+-- `further` state the theorem `first-byte-decides`; the rest of OnePage serves the contracts of private functions. Extends is for claims on two memories.
+-- To be read beside docs/RULES.md, "Reaching a byte". How to read it: pages/specs/Lib.antt.
 pub mod Extends
 pub mod OnePage

@@ -31,7 +31,7 @@ further i Unlisted = Unlisted
 further i (At kind place) = At kind (place + i)
 
 -- the page that a place lies on is among the lent bytes, and n bytes from the place on lie on it
-pub record OnLentPage (lent place n : ℕ) : Type 0 where
+pub record PageHolds (lent place n : ℕ) : Type 0 where
   pub lent-whole : place - place % pageBytes + pageBytes ≤ lent
   pub inside : place % pageBytes + n ≤ pageBytes
 
@@ -73,6 +73,6 @@ quickly look a = cond (onePage (start a) (byteCount (a .size))) (firstLocated lo
 unfoldable pub onLentPage : ℕ → ℕ → ℕ → Bool
 onLentPage lent place n = ltb (place / pageBytes) (lent / pageBytes) && onePage place n
 
--- the same bytes, written where they lie on one lent page, else none of them
+-- the low n bytes of a value, put from a place on where they lie on one lent page, else none of them
 unfoldable pub storeAt : ℕ → ℕ → ℕ → List ℕ → List ℕ
 storeAt place n v bytes = cond (onLentPage (length bytes) place n) (putAt place n v bytes) bytes

@@ -6,7 +6,7 @@ ghost use lib.ListN.{length};
 ghost use Rattle.pages.specs.Pages.{spot};
 ghost use Rattle.numbers.specs.Numbers.{byteCount, numberAt, putAt};
 ghost use Rattle.accesses.specs.Access.{lookupOf, onKind};
-ghost use Rattle.memory.specs.OnePage.{onePage, allowed, locatedIf, within, located, quickly, OnLentPage, storeAt};
+ghost use Rattle.memory.specs.OnePage.{onePage, allowed, locatedIf, within, located, quickly, PageHolds, onLentPage, storeAt};
 use accesses::Access;
 use accesses::Failure;
 use accesses::Reach;
@@ -94,7 +94,7 @@ pub fn locate(access: Access, pages: &[u64], bytes: &[u8]) -> Located
 
 // The number at a place, all on one page. Only that page is handed on.
 pub(crate) fn load_within(bytes: &[u8], place: usize, size: Size) -> u64
-    requires { ⌜ OnLentPage (length (now bytes)) place (byteCount size) ⌝ }
+    requires { ⌜ PageHolds (length (now bytes)) place (byteCount size) ⌝ }
     ensures { λ r. ⌜ r ≡ numberAt (now (bytes .entry)) place (byteCount size) ⌝ }
 {
     let at = place % PAGE_BYTES;
@@ -108,7 +108,7 @@ pub(crate) fn load_within(bytes: &[u8], place: usize, size: Size) -> u64
 
 // Writes the low bytes of a value at a place, all on one page. Only that page is lent on.
 pub(crate) fn store_within(bytes: &mut [u8], place: usize, size: Size, value: u64)
-    requires { ⌜ OnLentPage (length (now bytes)) place (byteCount size) ⌝ }
+    requires { ⌜ PageHolds (length (now bytes)) place (byteCount size) ⌝ }
     ensures { λ _. ⌜ now (bytes .exit) ≡ putAt place (byteCount size) value (now (bytes .entry)) ⌝ }
 {
     let at = place % PAGE_BYTES;
@@ -117,14 +117,17 @@ pub(crate) fn store_within(bytes: &mut [u8], place: usize, size: Size, value: u6
     numbers::store(&mut bytes[start..end], at, size, value);
 }
 
-// Writes the low bytes of a value at any place: nothing unless they all lie on one page, and that is lent whole.
-pub fn store_at(bytes: &mut [u8], place: usize, size: Size, value: u64)
+// Writes the low bytes of a value at any place, or nothing where they do not all lie on one page that is lent whole; and says which.
+pub fn store_at(bytes: &mut [u8], place: usize, size: Size, value: u64) -> bool
+    ensures { λ r. ⌜ r ≡ onLentPage (length (now (bytes .entry))) place (byteCount size) ⌝ }
     ensures { λ _. ⌜ now (bytes .exit) ≡ storeAt place (byteCount size) value (now (bytes .entry)) ⌝ }
 {
     if place / PAGE_BYTES >= bytes.len() / PAGE_BYTES {
-        return;
+        return false;
     }
     if one_page(place as u64, size.bytes()) {
         store_within(bytes, place, size, value);
+        return true;
     }
+    false
 }

@@ -1,4 +1,4 @@
--- Numbers of 4 and 8 bytes, low byte first, at a place of a list of bytes (docs/RULES.md, "Reaching a byte"). Assumes nothing.
+-- Numbers of 4 and 8 bytes, low byte first, at a place of a list of bytes. Assumes nothing.
 use Prim.Native.Nat.{ℕ, zero, suc, _+_, _*_, _/_, _%_}
 use mathlib.Core.Bool.{Bool, cond}
 use mathlib.Core.List.{List}
@@ -22,7 +22,7 @@ unfoldable pub numberAt : List ℕ → ℕ → ℕ → ℕ
 numberAt bytes place zero = 0
 numberAt bytes place (suc n) = getD bytes place 0 + 256 * numberAt bytes (suc place) n
 
--- the same, where they are there
+-- that number, or `Outside` where the list ends before the n bytes do
 unfoldable pub held : List ℕ → ℕ → ℕ → Held
 held bytes place n = cond (inside (length bytes) place n) (Number (numberAt bytes place n)) Outside
 
@@ -31,6 +31,6 @@ unfoldable pub putAt : ℕ → ℕ → ℕ → List ℕ → List ℕ
 putAt place zero v bytes = bytes
 putAt place (suc n) v bytes = putAt (suc place) n (v / 256) (set bytes place (v % 256))
 
--- the same, where there is room for all of them, else none
+-- the same where the list has room for all n, else the list as it was
 unfoldable pub putIf : ℕ → ℕ → ℕ → List ℕ → List ℕ
 putIf place n v bytes = cond (inside (length bytes) place n) (putAt place n v bytes) bytes

@@ -38,7 +38,7 @@ fn make(access: Access, value: u64, place: usize, pages: &[u64], bytes: &mut [u8
         return;
     }
     let size = access.size;
-    store_at(bytes, place, size, value);
+    let stored = store_at(bytes, place, size, value);
 }
 
 // Makes the stores of the list if all can be made, each page looked up once for a number that lies on one; else none of them. All are tried

@@ -11,7 +11,7 @@ use Rattle.processor.specs.declared.state.State.{State}
 
 -- ---- the target
 
--- the displacement: the low 32 bits of A as a signed number, from -2^31 to 2^31 - 1
+-- the displacement: the low 32 bits of A as a signed number, from -2^31 to 2^31 - 1; `negsuc d` is -(d + 1)
 unfoldable pub displacement : ℕ → ℤ
 displacement a =
     let low : ℕ = a % 2 ^ 32 in
@@ -21,7 +21,7 @@ displacement a =
 unfoldable pub displaced : ℕ → Bool
 displaced a = not (eqb (a % 2 ^ 32) 0)
 
--- a pointer moved by a signed number; `negsuc d` is -(d + 1)
+-- a pointer moved by a signed number
 abbrev pub moved : State → ℕ → ℤ → ℕ
 moved s from (pos d) = plus s from d
 moved s from (negsuc d) = minus s from (d + 1)
@@ -30,11 +30,11 @@ moved s from (negsuc d) = minus s from (d + 1)
 unfoldable pub relative : State → ℕ → ℕ → ℕ
 relative s a span = moved s (next s span) (displacement a)
 
--- in mode 2 the target must be canonical, otherwise within the code limit
+-- in mode 2 the target must be canonical; in the other modes it must be at most the code limit
 unfoldable pub inCode : State → ℕ → Bool
 inCode s target = cond (isLong s) (canonical target) (leb target (s .limit))
 
--- ---- the pushes
+-- ---- the pushes and pops
 
 -- 8 bytes in mode 2, otherwise 4
 abbrev pub pushed : State → Size

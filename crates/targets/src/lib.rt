@@ -56,7 +56,7 @@ pub fn pushed(state: State) -> Size
     }
 }
 
-// Whether 4 bytes from here on would run past the end of a 32-bit stack.
+// Whether 4 bytes from here on would run past the end of a 32-bit stack; never in mode 2.
 pub fn runs_past(state: State, first: u64) -> bool
     ensures { λ r. ⌜ r ≡ runsPast state first ⌝ }
 {
@@ -66,7 +66,7 @@ pub fn runs_past(state: State, first: u64) -> bool
     first > 0xffff_fffc
 }
 
-// Whether the displacement of a relative call is other than 0.
+// Whether the displacement of a relative call is other than 0: the low 32 bits of A are not 0.
 pub fn displaced(a: u64) -> bool
     ensures { λ r. ⌜ r ≡ displacedOf a ⌝ }
 {

@@ -28,7 +28,7 @@ returns-2 c =
     let after-store-at = c .before .before in
     let else1 = after-store-at .before .before in
     let start = else1 .before .before .before in
-    after-store-at .store-at .ensures
+    after-store-at .store-at .ensures .1
     ∙ placed-written _ _ _ _ (start .pre .lies (else1 .if1 .left)) _ _ refl
 
 pub make-spec : {M : Type 1} → statement M

@@ -3,7 +3,7 @@ use mathlib.Core.Path.{sym, _∙_}
 use borrow.Author.Needs.{needs}
 use Rattle.accesses.specs.Access.{lookupOf}
 use Rattle.accesses.proofs.Laws.{load-failed}
-use Rattle.memory.proofs.OnePage.{quick-told, on-lent-page, load-placed}
+use Rattle.memory.proofs.OnePage.{quick-told, page-holds, load-placed}
 use Rattle.memory.proofs.moves.load.Statement.{statement}
 use Rattle.memory.proofs.moves.load.Tie as tie
 
@@ -16,7 +16,7 @@ enum-known-place c = search needs
 load-within-requires : tie.Need-load-within-requires
 unfolding lookupOf
 load-within-requires c κs =
-    on-lent-page _ _ _ _ (quick-told _ _ _ _ (sym (c .before .place .given .1) ∙ c .before .before .before .quick .ensures))
+    page-holds _ _ _ _ (quick-told _ _ _ _ (sym (c .before .place .given .1) ∙ c .before .before .before .quick .ensures))
 
 enum-told : tie.Need-enum-told
 enum-told c = search needs

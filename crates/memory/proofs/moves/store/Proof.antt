@@ -4,7 +4,7 @@ use mathlib.Core.Path.{sym, _∙_}
 use borrow.Author.Needs.{needs}
 use Rattle.accesses.specs.Access.{lookupOf}
 use Rattle.accesses.proofs.Laws.{store-failed}
-use Rattle.memory.proofs.OnePage.{quick-told, on-lent-page, store-placed}
+use Rattle.memory.proofs.OnePage.{quick-told, page-holds, store-placed}
 use Rattle.memory.proofs.moves.store.Statement.{statement}
 use Rattle.memory.proofs.moves.store.Tie as tie
 
@@ -18,7 +18,7 @@ store-within-requires : tie.Need-store-within-requires
 unfolding lookupOf
 store-within-requires c κs =
     let after-place = c .before .before in
-    on-lent-page _ _ _ _ (quick-told _ _ _ _ (sym (after-place .place .given .1) ∙ after-place .before .before .quick .ensures))
+    page-holds _ _ _ _ (quick-told _ _ _ _ (sym (after-place .place .given .1) ∙ after-place .before .before .quick .ensures))
 
 enum-told : tie.Need-enum-told
 enum-told c = search needs

@@ -3,12 +3,14 @@ use mathlib.Core.Path.{_≡_, sym, _∙_}
 use borrow.Author.Needs.{needs}
 use Rattle.numbers.specs.Numbers.{byteCount}
 use Rattle.memory.specs.OnePage.{onePage}
-use Rattle.memory.proofs.OnePage.{page-not-lent, runs-off-page, lies-on-page, stored-on-page}
+use Rattle.memory.proofs.OnePage.{page-not-lent, by-its-end, lies-on-page, not-stored, stored}
 use Rattle.memory.proofs.one_page.store_at.Statement.{statement}
 use Rattle.memory.proofs.one_page.store_at.Tie as tie
 
 returns : tie.Need-returns
-returns c = sym (page-not-lent _ _ _ _ (c .if1 .taken))
+returns c =
+    let off = page-not-lent _ _ _ (c .if1 .taken) in
+    (sym off, sym (not-stored _ _ _ _ off))
 
 bytes-requires : tie.Need-bytes-requires
 bytes-requires c κs = search needs
@@ -35,11 +37,13 @@ returns-2 c =
     let after-store-within = c .before .before in
     let then2 = after-store-within .before .before in
     let after-one-page = then2 .before in
-    after-store-within .store-within .ensures
-    ∙ sym (stored-on-page _ _ _ _ (after-one-page .before .before .if1 .left) (tested after-one-page ∙ then2 .if2 .taken))
+    let on = by-its-end _ _ _ (after-one-page .before .before .if1 .left) _ (tested after-one-page ∙ then2 .if2 .taken) in
+    (sym on, after-store-within .store-within .ensures ∙ sym (stored _ _ _ _ on))
 
 returns-3 : tie.Need-returns-3
-returns-3 c = sym (runs-off-page _ _ _ _ (c .before .before .before .if1 .left) (tested (c .before) ∙ c .if2 .left))
+returns-3 c =
+    let off = by-its-end _ _ _ (c .before .before .before .if1 .left) _ (tested (c .before) ∙ c .if2 .left) in
+    (sym off, sym (not-stored _ _ _ _ off))
 
 pub store-at-spec : {M : Type 1} → statement M
 store-at-spec =
