@@ -6,7 +6,7 @@ use mathlib.Core.Bool.{Bool, false}
 use mathlib.Core.List.{List}
 use lib.ListN.{length}
 use Rattle.memory.specs.Extends.{Places, cell, isListed, isKind}
-use Rattle.pages.specs.Pages.{Lookup}
+use Rattle.pages.specs.Pages.{Lookup, ordinary}
 use Rattle.pages.specs.declared.pages.Spot.{Spot}
 use Rattle.processor.specs.Layout.{withSsp}
 use Rattle.processor.specs.Prog.{Step}
@@ -26,7 +26,7 @@ CallsNext i = (decoded (i .code) ≡ Call Relative) × (i .a ≡ 0)
 
 -- an address leads to an ordinary page
 abbrev pub isOrdinary : Spot → Bool
-isOrdinary = isKind 3
+isOrdinary = isKind ordinary
 
 -- The pages have the same addresses, and the same ones are ordinary. Where they stand in a list and what they hold is free; a shadow page of
 -- one may be of the other shadow kind in the other, and none is missing.

@@ -4,8 +4,7 @@
 -- numbers of a fault, the call of the next instruction and the worked cases are about the codes that are built.
 --
 -- How to read a claim, beyond what pages/specs/Lib.antt and processor/specs/Lib.antt say. `(x : A) → B` is B for every x, `A → B` B if A,
--- `A → ⊥` not A, `A × B` both, `(x : A) × B` B for some x. `let x : A = e in B` is B with x for e. `++` joins lists, `map f` applies f
--- to each element.
+-- `A → ⊥` not A, `A × B` both, `(x : A) × B` B for some x. `++` joins lists, `map f` applies f to each element.
 pub mod Ends
 pub mod MorePages
 pub mod MoreRights

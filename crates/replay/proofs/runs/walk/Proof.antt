@@ -8,7 +8,9 @@ use Rattle.accesses.specs.Access.{lookupOf}
 use Rattle.memory.proofs.Laws.{lookup-kept}
 use Rattle.replay.proofs.runs.walk.Tie as tie
 use Rattle.processor.specs.Outcomes.{stepOf}
-use Rattle.replay.specs.Run.{runFrom}
+use Rattle.processor.specs.Prog.{Step}
+use Rattle.perform.specs.Exec.{perform}
+use Rattle.replay.specs.Run.{Run, runFrom, onward, endsAt}
 use Rattle.perform.specs.Codes.{codes}
 use Rattle.instructions.specs.Instruction.{instructionAt}
 use Rattle.replay.proofs.RunLaws.{goes-on, ends, at-end}
@@ -54,19 +56,39 @@ loop-less c =
     let after-bytes = c .before .before .before .before in
     let h = way-bytes after-bytes .in-loop .loop-test .taken in omega arith
 
+-- what the instruction gave, with the bytes that it left
+abbrev this : tie.After-bytes Inv-loop μ-loop → Step
+this c = stepOf (c .before .perform .result) (c .before .perform .last .1 .1 .1 .0)
+
+performed : (c : tie.After-bytes Inv-loop μ-loop) →
+    let way = way-bytes c in
+    let args = way .at-loop .before .before .before .before .args in
+    let loop = way .at-loop .loop in
+    perform codes (lookupOf (args .pages .now) (args .bytes .now)) (instructionAt (args .words .now) (loop .k)) (loop .state) (loop .bytes) ≡ this c
+performed c =
+    let way = way-bytes c in
+    rw (← way .at-loop .loop .inv .2, ← way .after-nth .nth .ensures) (sym (c .before .perform .ensures))
+
 loop-again : tie.Need-loop-again Inv-loop μ-loop
 loop-again c =
     let after-bytes = c .before .before .before .before in
-    let after-perform = after-bytes .before in
     let way = way-bytes after-bytes in
     let inv = way .at-loop .loop .inv in (
-      inv .0
-          ∙ goes-on _ _ _ _ _ _ _ (way .in-loop .loop-test .taken)
-          (stepOf (after-perform .perform .result) (after-perform .perform .last .1 .1 .1 .0))
-          (rw (← inv .2, ← way .after-nth .nth .ensures) (sym (after-perform .perform .ensures))) (c .enum-told .given .1),
+      inv .0 ∙ goes-on _ _ _ _ _ _ _ (way .in-loop .loop-test .taken) (this after-bytes) (performed after-bytes) (c .enum-told .given .1),
       after-bytes .bytes .given ∙ inv .1,
       lookup-kept _ _ _ (after-bytes .bytes .given ∙ inv .1),
     )
+
+-- where its answer does not go on, the run ends with it
+ended : (c : tie.After-bytes Inv-loop μ-loop) → ((more end : Run) → onward (this c .answer) more end ≡ end) →
+    let at-loop = way-bytes c .at-loop in
+    let args = at-loop .before .before .before .before .args in
+    runFrom codes (lookupOf (args .pages .now) (args .bytes .now)) (instructionAt (args .words .now)) 0 (length (args .words .now) / 4) (args .state)
+    (args .bytes .now)
+    ≡ endsAt (at-loop .loop .k) (this c)
+ended c stops =
+    let way = way-bytes c in
+    way .at-loop .loop .inv .0 ∙ ends _ _ _ _ _ _ _ (way .in-loop .loop-test .taken) (this c) (performed c) stops
 
 enum-known-answer : tie.Need-enum-known-answer Inv-loop μ-loop
 enum-known-answer c = search needs
@@ -78,17 +100,8 @@ same-length c =
 
 returns : tie.Need-returns Inv-loop μ-loop
 returns c =
-    let after-answer = c .before in
-    let after-bytes = after-answer .before .before .before .before in
-    let after-perform = after-bytes .before in
-    let way = way-bytes after-bytes in
-    let inv = way .at-loop .loop .inv in
-    rw (← after-answer .answer .given .1)
-    (sym (inv .0
-    ∙ ends _ _ _ _ _ _ _ (way .in-loop .loop-test .taken)
-    (stepOf (after-perform .perform .result) (after-perform .perform .last .1 .1 .1 .0))
-    (rw (← inv .2, ← way .after-nth .nth .ensures) (sym (after-perform .perform .ensures)))
-    (λ more end. rw (after-answer .answer .given .1))))
+    let known = c .before .answer .given .1 in
+    rw (← known) (sym (ended (c .before .before .before .before .before) (λ more end. rw known)))
 
 enum-known-answer-2 : tie.Need-enum-known-answer-2 Inv-loop μ-loop
 enum-known-answer-2 c = search needs
@@ -100,17 +113,8 @@ same-length-2 c =
 
 returns-2 : tie.Need-returns-2 Inv-loop μ-loop
 returns-2 c =
-    let after-answer2 = c .before in
-    let after-bytes = after-answer2 .before .before .before .before in
-    let after-perform = after-bytes .before in
-    let way = way-bytes after-bytes in
-    let inv = way .at-loop .loop .inv in
-    rw (← after-answer2 .answer2 .given .1)
-    (sym (inv .0
-    ∙ ends _ _ _ _ _ _ _ (way .in-loop .loop-test .taken)
-    (stepOf (after-perform .perform .result) (after-perform .perform .last .1 .1 .1 .0))
-    (rw (← inv .2, ← way .after-nth .nth .ensures) (sym (after-perform .perform .ensures)))
-    (λ more end. rw (after-answer2 .answer2 .given .1))))
+    let known = c .before .answer2 .given .1 in
+    rw (← known) (sym (ended (c .before .before .before .before .before) (λ more end. rw known)))
 
 same-length-3 : tie.Need-same-length-3 Inv-loop μ-loop
 same-length-3 c = c .before .loop .inv .1
