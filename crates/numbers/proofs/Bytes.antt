@@ -1,13 +1,15 @@
 -- Four bytes one by one, and eight as twice four; and whether they lie within a list. Assumes nothing.
 use Prim.Native.Nat.{ℕ, zero, suc, _+_, _*_, _/_, _%_, _-_, _^_, _<_, _≤_}
-use mathlib.Core.Path.{_≡_, refl, sym, _∙_}
+use mathlib.Core.Path.{_≡_, refl, sym, ap, _∙_}
 use mathlib.Core.Bool.{Bool, true, false}
 use mathlib.Core.List.{List}
+use native.Mathlib.Nat.{pow-suc}
 use native.Mathlib.Omega.{arith}
-use lib.ListN.{length, getD, set, length-set}
+use lib.ListN.{length, getD, drop, set, length-set}
+use lib.Seq.{getD-drop}
 use lib.Dec.{leb}
 use borrow.Author.Tests.{leb-true, leb-false, le-leb, lt-leb}
-use Rattle.numbers.specs.Numbers.{byteCount, inside, numberAt, held, putAt, putIf}
+use Rattle.numbers.specs.Numbers.{byteCount, inside, numberAt, littleBytes, held, putAt, putIf}
 use Rattle.numbers.specs.declared.size.Size.{Size}
 use Rattle.numbers.specs.declared.size.Size.the-variants.{Four, Eight}
 use Rattle.numbers.specs.declared.loads.Held.the-variants.{Number, Outside}
@@ -63,6 +65,30 @@ pub length-put-at : (place n v : ℕ) (bytes : List ℕ) → length (putAt place
 unfolding putAt
 length-put-at place zero v bytes = refl
 length-put-at place (suc n) v bytes = length-put-at (suc place) n (v / 256) (set bytes place (v % 256)) ∙ length-set bytes place (v % 256)
+
+-- ---- any number of bytes
+
+-- the number from a place on is that of what is left there
+pub number-drop : (bytes : List ℕ) (at n : ℕ) → numberAt (drop at bytes) 0 n ≡ numberAt bytes at n
+unfolding numberAt
+number-drop bytes at n = let same : at + 0 ≡ at = omega arith in from 0 n ∙ rw same
+  where
+    from : (i n : ℕ) → numberAt (drop at bytes) i n ≡ numberAt bytes (at + i) n
+    from i zero = refl
+    from i (suc n) = let next : at + suc i ≡ suc (at + i) = omega arith in rw (getD-drop at bytes i 0, from (suc i) n, next)
+
+pub number-below : (bytes : List ℕ) (at n : ℕ) → ((i : ℕ) → getD bytes i 0 < 256) → numberAt bytes at n < 256 ^ n
+unfolding numberAt
+number-below bytes at zero small = omega arith
+number-below bytes at (suc n) small =
+    let byte = small at in
+    let rest = number-below bytes (suc at) n small in
+    rw (pow-suc 256 n) (omega arith)
+
+pub little-length : (n v : ℕ) → length (littleBytes n v) ≡ n
+unfolding littleBytes
+little-length zero v = refl
+little-length (suc n) v = ap suc (little-length n (v / 256))
 
 -- ---- within a list
 

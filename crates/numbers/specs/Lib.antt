@@ -1,2 +1,3 @@
--- What a reader of this crate's contracts must believe. How to read it: pages/specs/Lib.antt.
+-- What a reader of this crate's contracts must believe. How to read it: pages/specs/Lib.antt; besides, `++` joins two lists.
 pub mod Numbers
+pub mod Buffers

@@ -1,7 +1,7 @@
 -- Numbers of 4 and 8 bytes, low byte first, at a place of a list of bytes. Assumes nothing.
 use Prim.Native.Nat.{ℕ, zero, suc, _+_, _*_, _/_, _%_}
 use mathlib.Core.Bool.{Bool, cond}
-use mathlib.Core.List.{List}
+use mathlib.Core.List.{List, [], _∷_}
 use lib.ListN.{length, getD, set}
 use lib.Dec.{leb}
 use Rattle.numbers.specs.declared.size.Size.{Size}
@@ -22,7 +22,12 @@ unfoldable pub numberAt : List ℕ → ℕ → ℕ → ℕ
 numberAt bytes place zero = 0
 numberAt bytes place (suc n) = getD bytes place 0 + 256 * numberAt bytes (suc place) n
 
--- that number, or `Outside` where the list ends before the n bytes do
+-- the n lowest bytes of a number, low byte first
+unfoldable pub littleBytes : ℕ → ℕ → List ℕ
+littleBytes zero v = []
+littleBytes (suc n) v = v % 256 ∷ littleBytes n (v / 256)
+
+-- the number that n bytes hold, or `Outside` where the list ends before the n bytes do
 unfoldable pub held : List ℕ → ℕ → ℕ → Held
 held bytes place n = cond (inside (length bytes) place n) (Number (numberAt bytes place n)) Outside
 

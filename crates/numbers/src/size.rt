@@ -1,6 +1,7 @@
 // How many bytes a number has.
 ghost use mathlib.Core.Path.{_≡_};
 ghost use Rattle.numbers.specs.Numbers.{byteCount, inside};
+use crate::copies::has_room;
 
 pub enum Size {
     Four,
@@ -21,9 +22,6 @@ impl Size {
     pub(crate) fn is_inside(self, at: usize, lent: usize) -> bool
         ensures { λ r. ⌜ r ≡ inside lent at (byteCount self) ⌝ }
     {
-        if lent < at {
-            return false;
-        }
-        self.bytes() <= (lent - at) as u64
+        has_room(lent, at, self.bytes() as usize)
     }
 }
