@@ -10,7 +10,7 @@ use borrow.Author.Tests.{eqb-true}
 use Rattle.pages.proofs.Laws.{once-apart, ValidList}
 use Rattle.processor.specs.State.{inRange}
 use Rattle.processor.specs.Layout.{stateOf}
-use Rattle.sheet.specs.Sheets.{frameOf}
+use Rattle.pages.specs.Pages.{frameOf}
 use Rattle.sheet_write.specs.Order.{Lent}
 use Rattle.sheet_write.specs.Writes.{goodState}
 

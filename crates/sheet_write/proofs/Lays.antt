@@ -5,12 +5,12 @@ use mathlib.Core.List.{List, [], _∷_, _++_, append-assoc, append-nil}
 use native.Mathlib.Omega.{arith}
 use lib.ListN.{length, length-append}
 use borrow.Author.Tests.{eq-eqb, ne-eqb}
-use Rattle.sheet.specs.Buffers.{laid, laidIf}
+use Rattle.numbers.specs.Buffers.{laid, laidIf}
 use Rattle.sheet.specs.Lines.{fieldCount, width, line, joined}
 use Rattle.sheet.specs.Sheets.{wordLine}
 use Rattle.sheet.specs.declared.line.Line.{Line}
 use Rattle.sheet.specs.declared.line.Line.the-variants.{Word}
-use Rattle.sheet.proofs.BufferLaws.{length-laid, laid-nil, laid-turn, laid-if}
+use Rattle.numbers.proofs.Laws.{length-laid, laid-nil, laid-turn, laid-if}
 use Rattle.sheet.proofs.LineLaws.{line-length}
 use Rattle.sheet_write.specs.Laying.{Laying}
 

@@ -8,7 +8,8 @@ use lib.ListN.{length, getD, take, drop}
 use Rattle.pages.specs.Pages.{pageBytes, pageOf}
 use Rattle.pages.proofs.Laws.{page-and-offset}
 use Rattle.sheet.specs.Lines.{line, joined}
-use Rattle.sheet.specs.Sheets.{Page, frameOf, little, wordLine, wordLines, slots, doLines}
+use Rattle.sheet.specs.Sheets.{Page, little, wordLine, wordLines, slots, doLines}
+use Rattle.pages.specs.Pages.{frameOf}
 use Rattle.sheet.specs.declared.line.Line.the-variants.{Page as PageLine, Do}
 use Rattle.sheet_write.specs.Order.{Nearest, from, Lent}
 use Rattle.sheet_write.specs.Laying.{linesOf, allLines}

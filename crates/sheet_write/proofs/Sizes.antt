@@ -10,7 +10,8 @@ use lib.Seq.{length-take-le, drop-drop, take-nil}
 use lib.Dec.{eqb}
 use Rattle.pages.specs.Pages.{pageBytes, pageOf}
 use Rattle.sheet.specs.Lines.{line, joined}
-use Rattle.sheet.specs.Sheets.{Page, frameOf, little, wordLine, wordLines, slots, doLines, pagesOf, insert, ascended, text, savedOf}
+use Rattle.sheet.specs.Sheets.{Page, little, wordLine, wordLines, slots, doLines, pagesOf, insert, ascended, text, savedOf}
+use Rattle.pages.specs.Pages.{frameOf}
 use Rattle.sheet.specs.declared.line.Line.the-variants.{Sheet, State as StateLine, Page as PageLine, Word, Do}
 use Rattle.sheet.proofs.LineLaws.{line-length}
 use Rattle.sheet_write.specs.Values.{lineCount, nonzeros}

@@ -12,7 +12,7 @@ use Rattle.replay.specs.declared.steps.Tested.the-variants.{Passed, Failed}
 use Rattle.sheet.specs.Lines.{fieldCount}
 use Rattle.sheet.specs.declared.line.Line.the-variants.{State as StateLine}
 use Rattle.sheet.specs.Sheets.{savedOf, text}
-use Rattle.sheet.specs.Buffers.{laid}
+use Rattle.numbers.specs.Buffers.{laid}
 use Rattle.sheet_write.specs.declared.text.Writing.{Writing}
 use Rattle.sheet_write.specs.declared.text.Writing.the-variants.{Done, Refused, TooLong}
 
