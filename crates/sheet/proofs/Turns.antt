@@ -1,7 +1,7 @@
 -- The turns of the loops: what each definition gives from a place on, in the terms of the code. Assumes nothing.
 use Prim.Native.Nat.{ℕ, suc, _+_, _-_, _*_, _/_, _%_, _^_, _<_, _≤_}
 use mathlib.Core.Path.{_≡_, refl, ap, _∙_}
-use mathlib.Core.Bool.{Bool, false, true, and-true, _&&_}
+use mathlib.Core.Bool.{false, true, and-true, _&&_}
 use mathlib.Core.List.{List, [], _∷_, _++_}
 use native.Mathlib.Nat.{pow-suc, pow-le-pow-right}
 use native.Mathlib.Numerals.{add-one}
@@ -19,12 +19,7 @@ use Rattle.sheet.specs.declared.digits.Numeral.the-variants.{Number, NoN
 use Rattle.sheet.proofs.DigitLaws.{both, hex-length, number-length}
 use Rattle.sheet.proofs.Fields.{fields-length, forms-length}
 use Rattle.sheet.proofs.FormLaws.{begins-room, begins-append, begins-take}
-use Rattle.sheet.proofs.LineLaws.{line-room}
 use borrow.Author.Tests.{eqb-true}
-
-not-so : (b : Bool) → (b ≡ true → ⊥) → b ≡ false
-not-so true other = absurd (other refl)
-not-so false other = refl
 
 -- ---- a form against a text
 
@@ -61,9 +56,6 @@ fields-stand-end left u none = let zero-is : left ≡ 0 = omega arith in rw zero
 
 -- a line, as it is tested: its name, its fields, its line feed
 module _ (kind : Line) (u : List ℕ) where
-  pub line-short : length u < width kind → begins (form kind) u ≡ false
-  line-short short = not-so (begins (form kind) u) (λ h. let room = line-room kind u h in omega arith)
-
   pub line-tested : width kind ≤ length u
       → begins (form kind) u ≡ (begins (name kind) u && (begins (fieldForms (fieldCount kind)) (drop (first kind - 1) u) && eqb (getD u (width kind - 1) 0) lineFeed))
   unfolding form
@@ -74,10 +66,6 @@ module _ (kind : Line) (u : List ℕ) where
       begins-append (name kind) (fieldForms n ++ (lineFeed ∷ [])) u
       ∙ rw (begins-append (fieldForms n) (lineFeed ∷ []) (drop (length (name kind)) u), forms-length n, drop-drop (18 * n) (length (name kind)) u, last, named,
         feed-test u (width kind - 1) (omega arith))
-
--- no line stands in an empty text
-pub line-none : (kind : Line) → begins (form kind) [] ≡ false
-line-none kind = line-short kind [] (omega arith)
 
 -- the part of a text from a place on, as the code lends it
 pub rest-whole : (text : List ℕ) (at : ℕ) → take (length text - at) (drop at text) ≡ drop at text

@@ -11,7 +11,7 @@ use lib.Dec.{eqb, leb}
 use borrow.Author.Tests.{eqb-true, eq-eqb}
 use Rattle.pages.proofs.Laws.{valid-list, list-valid}
 use Rattle.processor.specs.State.{inRange}
-use Rattle.processor.specs.Layout.{stateOf}
+use Rattle.processor.specs.Layout.{fields, stateOf, goodState}
 use Rattle.replay.specs.Run.{checkBy}
 use Rattle.replay.specs.declared.steps.Tested.{Tested}
 use Rattle.replay.specs.declared.steps.Tested.the-variants.{Passed, Failed}
@@ -23,7 +23,7 @@ use Rattle.sheet.proofs.TestedLaws.{Passes, passes, passed}
 use Rattle.sheet_read.specs.Reads.{Buffers, Read, byTest, byText, tested, fits, filled, sizesOf, reads}
 use Rattle.sheet_read.specs.declared.buffers.Sizes.{Sizes}
 use Rattle.sheet_read.specs.declared.buffers.Reading.the-variants.{Done as ReadDone, TooLong as ReadTooLong}
-use Rattle.sheet_write.specs.Writes.{Written, byTest as writtenByTest, goodState, printed, writes}
+use Rattle.sheet_write.specs.Writes.{Written, byTest as writtenByTest, printed, writes}
 use Rattle.sheet_write.specs.declared.text.Writing.the-variants.{Done as WriteDone, TooLong as WriteTooLong}
 use Rattle.sheet_write.specs.Laying.{textLength}
 use Rattle.sheet_write.proofs.Sizes.{text-size, nonzeros-most}
@@ -126,14 +126,14 @@ pub saved-sheeted : SavedSheeted
 unfolding goodState
 saved-sheeted state pages bytes words small-state small-pages small-bytes small-words e =
     let has = passes pages (length bytes) (goodState state) (length words) e in
-    let ten : length state ≡ 10 = eqb-true (length state) 10 (both (eqb (length state) 10) (inRange (stateOf state)) (has .state) .0) in
+    let ten : length state ≡ fields = eqb-true (length state) fields (both (eqb (length state) fields) (inRange (stateOf state)) (has .state) .0) in
     lent-sheeted pages bytes (list-valid pages (length bytes) (has .list)) state words ten small-state small-pages small-bytes (has .whole) small-words
 
 pub longest-text : LongestText
 unfolding goodState textLength
 longest-text state pages bytes words e =
     let has = passes pages (length bytes) (goodState state) (length words) e in
-    let ten : length state ≡ 10 = eqb-true (length state) 10 (both (eqb (length state) 10) (inRange (stateOf state)) (has .state) .0) in
+    let ten : length state ≡ fields = eqb-true (length state) fields (both (eqb (length state) fields) (inRange (stateOf state)) (has .state) .0) in
     let whole = has .list .whole in
     let few = has .list .few in
     let steps = has .few in
@@ -148,7 +148,7 @@ again state pages bytes words h =
     passed (entriesOf (s .pages)) (length (bytesOf (s .pages))) (inRange (stateOf state)) (length words)
     (record {
       list = valid-list (entriesOf (s .pages)) (length (bytesOf (s .pages))) (ascended-valid pages bytes (list-valid pages (length bytes) (h .list)));
-      state = both (eqb (length state) 10) (inRange (stateOf state)) (h .state) .1;
+      state = both (eqb (length state) fields) (inRange (stateOf state)) (h .state) .1;
       whole = h .whole;
       few = h .few;
     })
@@ -165,9 +165,9 @@ written-read state pages bytes words out lent long small-state small-pages small
 -- ---- what was read is written
 
 -- the run of a sheet passes the tests of a write, as it did those of the read
-good-again : (s : Saved) → length (s .state) ≡ 10 → tested s ≡ Passed → checkBy (entriesOf (s .pages)) (length (bytesOf (s .pages))) (goodState (s .state)) (length (s .words)) ≡ Passed
+good-again : (s : Saved) → length (s .state) ≡ fields → tested s ≡ Passed → checkBy (entriesOf (s .pages)) (length (bytesOf (s .pages))) (goodState (s .state)) (length (s .words)) ≡ Passed
 unfolding tested goodState
-good-again s ten good = rw (eq-eqb (length (s .state)) 10 ten) good
+good-again s ten good = rw (eq-eqb (length (s .state)) fields ten) good
 
 pub read-written : ReadWritten
 unfolding writes filled sizesOf
@@ -175,7 +175,7 @@ read-written t out lent sizes e =
     let was = read-was t lent sizes e in
     let s : Saved = was .saved in
     let back = writes-back t s (was .from) in
-    let state-is = front (lent .state) (s .state) 10 (back .0 .fields) in
+    let state-is = front (lent .state) (s .state) fields (back .0 .fields) in
     let pages-are = front (lent .pages) (entriesOf (s .pages)) (sizes .pages) (ap (λ (z : Sizes). z .pages) (was .long)) in
     let bytes-are = front (lent .bytes) (bytesOf (s .pages)) (sizes .bytes) (ap (λ (z : Sizes). z .bytes) (was .long)) in
     let words-are = front (lent .words) (s .words) (sizes .words) (ap (λ (z : Sizes). z .words) (was .long)) in

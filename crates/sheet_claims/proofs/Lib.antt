@@ -18,6 +18,7 @@ pub mod SavedLaws
 pub mod LentBuffersProof
 mod Bytes
 mod LineKinds
+mod Plain
 mod WordsRead
 mod StagesRead
 mod SheetLines
