@@ -5,6 +5,7 @@ use mathlib.Core.List.{List, [], _∷_, _++_, append-nil}
 use mathlib.Core.Path.{_≡_, refl, sym, ap, ap₂, _∙_}
 use native.Mathlib.Omega.{arith}
 use lib.ListN.{length, take, drop, length-append, length-drop}
+use lib.Seq.{drop-drop}
 use lib.Dec.{eqb, eqb·suc-zero}
 use borrow.Author.Tests.{eqb-true}
 use Rattle.sheet.specs.Lines.{line, isLine, values}
@@ -61,13 +62,13 @@ module _ (ls : List (List ℕ)) (e : isHead (next ls) ≡ true) (f : isLine Stat
   both-there = by (stages (drop 2 ls) .left) refl
     where
       by : (left : List (List ℕ)) → stages (drop 2 ls) .left ≡ left → Outcome ls
-      by [] none = whole s sheeted (sym (append-nil (sheetLines s)) ∙ (rw none at all-lines)) (head-parsed ls ∙ rw (e, f, none))
+      by [] none = whole s sheeted (sym (append-nil (sheetLines s)) ∙ (rw none at all-lines)) (head-parsed ls ∙ rw (e, f, drop-drop 1 1 ls, none))
       by (l ∷ rest) some =
           let lines-are : sheetLines s ++ l ∷ rest ≡ ls = rw some at all-lines in
           let taken : suc (length (drop 1 ls)) - suc (length rest) ≡ length (sheetLines s)
           = let n = simp length-append at (ap length lines-are) in let behind = length-drop 1 ls in omega arith
           in
-          stopped s l rest sheeted lines-are some (head-parsed ls ∙ rw (e, f, some, eqb·suc-zero (length rest), taken))
+          stopped s l rest sheeted lines-are some (head-parsed ls ∙ rw (e, f, drop-drop 1 1 ls, some, eqb·suc-zero (length rest), taken))
 
 pub outcome : (ls : List (List ℕ)) → Outcome ls
 unfolding parsedBody
