@@ -1,5 +1,8 @@
 // An instruction, as four words give it.
 
+// How many words an instruction has.
+pub const INSTRUCTION_WORDS: usize = 4;
+
 // Its code, its length in bytes, and its two operand words.
 pub struct Instruction {
     pub code: u64,

@@ -4,6 +4,7 @@ mod instruction;
 mod operation;
 mod permission;
 
+pub use instruction::INSTRUCTION_WORDS;
 pub use instruction::Instruction;
 pub use operation::Operation;
 pub use operation::Release;

@@ -5,7 +5,7 @@ ghost use Rattle.numbers.specs.Numbers.{inside};
 ghost use Rattle.numbers.specs.Buffers.{laidIf};
 
 // Whether n elements from a place on lie within a list of this length.
-pub(crate) fn has_room(lent: usize, at: usize, n: usize) -> bool
+pub fn has_room(lent: usize, at: usize, n: usize) -> bool
     ensures { λ r. ⌜ r ≡ inside lent at n ⌝ }
 {
     if lent < at {

@@ -6,6 +6,7 @@ mod stores;
 
 pub use copies::copy_bytes;
 pub use copies::copy_words;
+pub use copies::has_room;
 pub use loads::Held;
 pub use loads::load;
 pub use size::Size;

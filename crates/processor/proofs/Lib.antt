@@ -1,2 +1,3 @@
--- Laws that belong to no one function.
+-- Laws that belong to no one function: Laws on the access language, Layouts on words as a state.
 pub mod Laws
+pub mod Layouts

@@ -1,34 +1,46 @@
 // A state in words: from them, and to them. A further field edits the struct and this file.
 ghost use mathlib.Core.Path.{_≡_};
-ghost use lib.ListN.{getD};
-ghost use Rattle.processor.specs.Layout.{stateOf, wordsOf};
+ghost use Rattle.processor.specs.Layout.{formed, goodState, wordsOf};
 use crate::state::State;
 
 // How many fields a state has.
 pub const FIELDS: usize = 10;
 
-// The i-th word, or 0 where there is none.
-fn word(words: &[u64], i: usize) -> u64
-    ensures { λ r. ⌜ r ≡ getD (now (words .entry)) i 0 ⌝ }
-{
-    if i < words.len() { words[i] } else { 0 }
+// What words make.
+pub enum Formed {
+    Whole(State),
+    // Not as many as a state has fields.
+    NoState,
 }
 
 // The state whose fields are these words, in the order of the rules.
-pub fn state_of(words: &[u64]) -> State
-    ensures { λ r. ⌜ r ≡ stateOf (now (words .entry)) ⌝ }
+pub fn state_of(words: &[u64]) -> Formed
+    ensures { λ r. ⌜ r ≡ formed (now (words .entry)) ⌝ }
 {
-    State {
-        mode: word(words, 0),
-        cpl: word(words, 1),
-        cet: word(words, 2),
-        ucet: word(words, 3),
-        scet: word(words, 4),
-        ip: word(words, 5),
-        sp: word(words, 6),
-        ssp: word(words, 7),
-        flags: word(words, 8),
-        limit: word(words, 9),
+    if words.len() != FIELDS {
+        return Formed::NoState;
+    }
+    Formed::Whole(State {
+        mode: words[0],
+        cpl: words[1],
+        cet: words[2],
+        ucet: words[3],
+        scet: words[4],
+        ip: words[5],
+        sp: words[6],
+        ssp: words[7],
+        flags: words[8],
+        limit: words[9],
+    })
+}
+
+// Whether words make a state whose fields are all in their ranges.
+pub fn good_state(words: &[u64]) -> bool
+    ensures { λ r. ⌜ r ≡ goodState (now (words .entry)) ⌝ }
+{
+    match state_of(words) {
+        Formed::Whole(state) => state.in_range(),
+        Formed::NoState => false,
     }
 }
 

@@ -13,6 +13,8 @@ pub use answers::blame;
 pub use answers::control_fault;
 pub use answers::fault;
 pub use layout::FIELDS;
+pub use layout::Formed;
+pub use layout::good_state;
 pub use layout::state_of;
 pub use outcome::Outcome;
 pub use popped::Popped;

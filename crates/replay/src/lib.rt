@@ -3,6 +3,8 @@ mod runs;
 mod steps;
 
 pub use instructions::Instruction;
+pub use processor::Formed;
+pub use processor::good_state;
 pub use processor::state_of;
 pub use runs::Replay;
 pub use runs::run;

@@ -9,9 +9,9 @@ use native.Mathlib.Omega.{arith}
 use lib.ListN.{length, take, drop, getD, replicate, length-append, length-take, length-replicate, replicate-append-replicate, take-append-drop}
 use lib.Seq.{drop-drop, take-at, drop-at, length-take-le}
 use Rattle.sheet.specs.Digits.{tab, lineFeed, letterX, digits, digit, hex, number, valueOf}
-use Rattle.sheet.specs.Lines.{fields, anyDigit, fieldForms, begins, valuesIn}
+use Rattle.sheet.specs.Lines.{fields, anyDigit, numberForm, fieldForms, begins, valuesIn}
 use Rattle.sheet.proofs.DigitLaws.{digit-is, hex-length, number-length, value-below, value-hex, hex-value}
-use Rattle.sheet.proofs.Forms.{begins-room, begins-take, begins-parts, begins-both, begins-letters, lacks}
+use Rattle.sheet.proofs.FormLaws.{begins-room, begins-take, begins-parts, begins-both, begins-letters, lacks}
 
 -- ---- lengths
 
@@ -50,6 +50,16 @@ unfolding fields number fieldForms begins
 fields-begin [] = refl
 fields-begin (v ∷ vs) =
     begins-both (replicate digits anyDigit) (fieldForms (length vs)) (hex digits v) (fields vs) (hex-length digits v) (hex-begins digits v) (fields-begin vs)
+
+-- where the i-th number stands, it has a number's form
+pub number-in : (n i : ℕ) (u : List ℕ) → begins (fieldForms n) u ≡ true → i < n → begins numberForm (drop (1 + 18 * i) u) ≡ true
+unfolding fieldForms
+number-in zero i u h less = absurd (omega arith)
+number-in (suc n) zero u h less = begins-parts (tab ∷ []) numberForm u (begins-parts (tab ∷ numberForm) (fieldForms n) u h .0) .1
+number-in (suc n) (suc i) u h less =
+    let place : 18 + (1 + 18 * i) ≡ 1 + 18 * suc i = omega arith in
+    ap (begins numberForm) (sym (drop-drop (1 + 18 * i) 18 u ∙ ap (λ (k : ℕ). drop k u) place))
+    ∙ number-in n i (drop 18 u) (begins-parts (tab ∷ numberForm) (fieldForms n) u h .1) (omega arith)
 
 -- ---- reading
 

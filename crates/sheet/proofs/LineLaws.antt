@@ -6,43 +6,40 @@
 -- A line of a kind at the front of a text:
 --     line-room                                               the text is as long as the line
 --     next-line, lines-step                                   it is the text's first line
---     line-value                                              where its numbers stand
+--     line-numeral                                            where its numbers stand, they are read
 -- A line:
 --     values-count, values-below                              how many numbers it has, each of 64 bits
 --     is-line-line, values-line, line-values                  writing and reading are inverse
---     one-kind                                                it is of one kind only
+--     one-kind                                                it is of one kind only, by its name
 -- A text:
 --     joined-lines, lines-joined, lines-append                joining lines and splitting are inverse (LinesOnly: each is a line of some kind)
 -- Assumes nothing.
 use Prim.Native.Nat.{ℕ, zero, suc, _+_, _*_, _^_, _<_, _≤_}
 use mathlib.Core.Path.{_≡_, refl, sym, ap, ap₂, _∙_}
-use mathlib.Core.Bool.{true, cond, _&&_}
+use mathlib.Core.Bool.{Bool, true, not, cond, _&&_}
 use mathlib.Core.List.{List, [], _∷_, _++_, append-assoc}
 use native.Mathlib.Omega.{arith}
 use lib.ListN.{length, take, drop, getD, length-append, length-drop, drop-of-length-le}
 use lib.Seq.{length-take-le, take-take, drop-drop, take-at, drop-at, drop-append-seam}
-use lib.Dec.{eqb}
-use borrow.Author.Tests.{eq-eqb, eqb-true}
-use Rattle.sheet.specs.Digits.{lineFeed, digits, valueOf, Below}
-use Rattle.sheet.specs.Lines.{name, fieldCount, fields, line, joined, lines, anyDigit, fieldForms, form, begins, width, isLine, valuesIn, values}
+use lib.Dec.{eqb, leb}
+use borrow.Author.Tests.{eq-eqb, eqb-true, leb-true, not-true}
+use Rattle.sheet.specs.Digits.{tab, lineFeed, digits, number, valueOf, Below}
+use Rattle.sheet.specs.Lines.{name, fieldCount, fields, line, joined, lines, anyDigit, numberForm, fieldForms, form, begins, numeral, first, width, isLine, valuesIn, values}
+use Rattle.sheet.specs.declared.digits.Numeral.the-variants.{Number}
 use Rattle.sheet.specs.Reading.{next}
 use Rattle.sheet.specs.declared.line.Line.{Line}
 use Rattle.sheet.specs.declared.line.Line.the-variants.{Sheet, State, Page, Word, Do}
 use Rattle.sheet.proofs.DigitLaws.{both, and-both, same}
-use Rattle.sheet.proofs.Fields.{forms-length, values-length, forms-lack-feed, fields-begin, value-in, value-small, values-fields, fields-values}
-use Rattle.sheet.proofs.Forms.{begins-room, begins-take, begins-more, begins-parts, begins-both, lacks, lacks-append, letters-begin, begins-letters, lines-begins, begins-next}
+use Rattle.sheet.proofs.Fields.{forms-length, values-length, forms-lack-feed, fields-begin, number-in, value-in, value-small, values-fields, fields-values}
+use Rattle.sheet.proofs.FormLaws.{begins-room, begins-take, begins-more, begins-parts, begins-both, lacks, lacks-append, letters-begin, begins-letters, lines-begins, begins-next}
 pub use Rattle.sheet.proofs.DigitLaws.{hex-length, number-length, value-below}
 pub use Rattle.sheet.proofs.Fields.{fields-length}
-pub use Rattle.sheet.proofs.Forms.{joined-lines}
+pub use Rattle.sheet.proofs.FormLaws.{joined-lines}
 
 -- ---- how long a line is
 
 width-is : (kind : Line) → width kind ≡ suc (length (name kind) + 18 * fieldCount kind)
-width-is Sheet = refl
-width-is State = refl
-width-is Page = refl
-width-is Word = refl
-width-is Do = refl
+width-is kind = omega arith
 
 pub line-length : (kind : Line) (vs : List ℕ) → length vs ≡ fieldCount kind → length (line kind vs) ≡ width kind
 unfolding line
@@ -76,21 +73,57 @@ marks-length kind = rw (length-append, forms-length) (sym (width-is kind))
 form-length : (kind : Line) → length (form kind) ≡ width kind
 form-length kind = rw (form-is, length-append, ← marks-length) (omega arith)
 
--- no name holds a line feed or the mark of a digit
-named : (kind : Line) → (lacks lineFeed (name kind) && lacks anyDigit (name kind)) ≡ true
-unfolding lacks
-named Sheet = refl
-named State = refl
-named Page = refl
-named Word = refl
-named Do = refl
+-- ---- what is computed of each kind, and all that is
 
-names-letters : (kind : Line) → (lacks lineFeed (name kind) ≡ true) × (lacks anyDigit (name kind) ≡ true)
-names-letters kind = both (lacks lineFeed (name kind)) (lacks anyDigit (name kind)) (named kind)
+-- its name holds no line feed, no mark of a digit and no tab; it has a number, and is not long
+sound : Line → Bool
+sound kind =
+    lacks lineFeed (name kind)
+    && (lacks anyDigit (name kind) && (lacks tab (name kind) && (leb 1 (fieldCount kind) && (leb (fieldCount kind) 64 && leb (length (name kind)) 64))))
+
+is-sound : (kind : Line) → sound kind ≡ true
+unfolding sound lacks
+is-sound Sheet = refl
+is-sound State = refl
+is-sound Page = refl
+is-sound Word = refl
+is-sound Do = refl
+
+record Sound (kind : Line) : Type 0 where
+  feed : lacks lineFeed (name kind) ≡ true
+  digit : lacks anyDigit (name kind) ≡ true
+  tab : lacks tab (name kind) ≡ true
+  some : 1 ≤ fieldCount kind
+  few : fieldCount kind ≤ 64
+  short : length (name kind) ≤ 64
+
+all-sound : (kind : Line) → Sound kind
+unfolding sound
+all-sound kind =
+    let first-parts = both _ _ (is-sound kind) in
+    let second-parts = both _ _ (first-parts .1) in
+    let third-parts = both _ _ (second-parts .1) in
+    let fourth-parts = both _ _ (third-parts .1) in
+    let last-parts = both _ _ (fourth-parts .1) in
+    record {
+      feed = first-parts .0;
+      digit = second-parts .0;
+      tab = third-parts .0;
+      some = leb-true _ _ (fourth-parts .0);
+      few = leb-true _ _ (last-parts .0);
+      short = leb-true _ _ (last-parts .1);
+    }
+
+-- a line's numbers, and where the first begins, are small
+pub few-fields : (kind : Line) → fieldCount kind ≤ 64
+few-fields kind = all-sound kind .few
+
+pub early-first : (kind : Line) → first kind ≤ 65
+early-first kind = let short = all-sound kind .short in omega arith
 
 marks-lack-feed : (kind : Line) → lacks lineFeed (marks kind) ≡ true
 unfolding marks
-marks-lack-feed kind = lacks-append lineFeed (name kind) (fieldForms (fieldCount kind)) (names-letters kind .0) (forms-lack-feed (fieldCount kind))
+marks-lack-feed kind = lacks-append lineFeed (name kind) (fieldForms (fieldCount kind)) (all-sound kind .feed) (forms-lack-feed (fieldCount kind))
 
 -- ---- a line at the front of a text
 
@@ -136,15 +169,27 @@ part-of-front n (suc k) zero u h = absurd (omega arith)
 part-of-front n (suc k) (suc w) [] h = refl
 part-of-front n (suc k) (suc w) (c ∷ cs) h = part-of-front n k w cs (omega arith)
 
-pub line-value : (kind : Line) (u : List ℕ) (i : ℕ) → begins (form kind) u ≡ true → i < fieldCount kind
-    → getD (values kind (take (width kind) u)) i 0 ≡ valueOf (take digits (drop (length (name kind) + 2 + 18 * i) u))
+line-value : (kind : Line) (u : List ℕ) (i : ℕ) → i < fieldCount kind
+    → getD (values kind (take (width kind) u)) i 0 ≡ valueOf (take digits (drop (first kind + 18 * i + 1) u))
 unfolding values
-line-value kind u i h less =
-    let wide = width-is kind in
-    let at : length (name kind) + (2 + 18 * i) ≡ length (name kind) + 2 + 18 * i = omega arith in
+line-value kind u i less =
+    let at : length (name kind) + (2 + 18 * i) ≡ first kind + 18 * i + 1 = omega arith in
     value-in (fieldCount kind) i (drop (length (name kind)) (take (width kind) u)) less
     ∙ ap (λ (r : List ℕ). valueOf (take digits r)) (drop-drop (2 + 18 * i) (length (name kind)) (take (width kind) u) ∙ ap (λ (k : ℕ). drop k (take (width kind) u)) at)
-    ∙ ap valueOf (part-of-front digits (length (name kind) + 2 + 18 * i) (width kind) u (omega arith))
+    ∙ ap valueOf (part-of-front digits (first kind + 18 * i + 1) (width kind) u (omega arith))
+
+-- where the i-th number of a line stands, it is read
+pub line-numeral : (kind : Line) (u : List ℕ) (i : ℕ) → begins (form kind) u ≡ true → i < fieldCount kind
+    → numeral (drop (first kind + 18 * i) u) ≡ Number (getD (values kind (take (width kind) u)) i 0)
+unfolding numeral form
+line-numeral kind u i h less =
+    let n = fieldCount kind in
+    let rest = drop (length (name kind)) u in
+    let named-parts = begins-parts (name kind) (fieldForms n ++ feed) u h in
+    let formed = number-in n i rest (begins-parts (fieldForms n) feed rest (named-parts .1) .0) less in
+    let at : length (name kind) + (1 + 18 * i) ≡ first kind + 18 * i = omega arith in
+    let there : drop (1 + 18 * i) rest ≡ drop (first kind + 18 * i) u = drop-drop (1 + 18 * i) (length (name kind)) u ∙ ap (λ (k : ℕ). drop k u) at in
+    rw (ap (begins numberForm) (sym there) ∙ formed, line-value kind u i less, ← drop-drop 1 (first kind + 18 * i) u)
 
 -- ---- a line written and read
 
@@ -152,7 +197,7 @@ pub is-line-line : (kind : Line) (vs : List ℕ) → length vs ≡ fieldCount ki
 unfolding isLine form line
 is-line-line kind vs e small =
     and-both
-    (begins-both (name kind) (fieldForms (fieldCount kind) ++ feed) (name kind) (fields vs ++ feed) refl (letters-begin (name kind) (names-letters kind .1))
+    (begins-both (name kind) (fieldForms (fieldCount kind) ++ feed) (name kind) (fields vs ++ feed) refl (letters-begin (name kind) (all-sound kind .digit))
     (begins-both (fieldForms (fieldCount kind)) feed (fields vs) feed (rw (← e) (fields-length vs ∙ sym (forms-length (length vs)))) (rw (← e) (fields-begin vs))
     (letters-begin feed feed-letter)))
     (eq-eqb (length (line kind vs)) (width kind) (line-length kind vs e))
@@ -173,23 +218,53 @@ line-values kind l h =
     ap (λ (r : List ℕ). name kind ++ r)
     (ap (λ (r : List ℕ). fields (valuesIn n rest) ++ r) (feed-only (drop (18 * n) rest) (simp length-drop (omega (arith, width-is kind))) (rw forms-length at (field-parts .1)))
     ∙ fields-values n rest (field-parts .0))
-    ∙ begins-letters (name kind) l (names-letters kind .1) (named-parts .0)
+    ∙ begins-letters (name kind) l (all-sound kind .digit) (named-parts .0)
 
--- the kind of line of a width
+-- what stands before the first tab: of a line, its name
+beforeTab : List ℕ → List ℕ
+beforeTab [] = []
+beforeTab (c ∷ cs) = cond (eqb c tab) [] (c ∷ beforeTab cs)
+
+before-tab : (a u : List ℕ) → lacks tab a ≡ true → beforeTab (a ++ (tab ∷ u)) ≡ a
+unfolding beforeTab lacks
+before-tab [] u h = refl
+before-tab (c ∷ cs) u h =
+    let parts = both (not (eqb c tab)) (lacks tab cs) h in
+    rw (not-true (eqb c tab) (parts .0), before-tab cs u (parts .1))
+
+fields-tab : (vs : List ℕ) → 1 ≤ length vs → (u : List ℕ) × (fields vs ++ feed ≡ tab ∷ u)
+unfolding fields
+fields-tab [] some = absurd (omega arith)
+fields-tab (v ∷ vs) some = ((number v ++ fields vs) ++ feed, refl)
+
+line-named : (kind : Line) (l : List ℕ) → isLine kind l ≡ true → beforeTab l ≡ name kind
+unfolding line
+line-named kind l h =
+    let rest = fields-tab (values kind l) (rw (values-count kind l) (all-sound kind .some)) in
+    ap beforeTab (sym (line-values kind l h) ∙ ap (λ (r : List ℕ). name kind ++ r) (rest .1)) ∙ before-tab (name kind) (rest .0) (all-sound kind .tab)
+
+-- a name as one number, by which names are told apart
+spelled : List ℕ → ℕ
+spelled [] = 0
+spelled (c ∷ cs) = c + 256 * spelled cs
+
+-- the kind of line of a name
 kindOf : ℕ → Line
-kindOf w = cond (eqb w 24) Sheet (cond (eqb w 186) State (cond (eqb w 23) Page (cond (eqb w 41) Word Do)))
+kindOf s =
+    cond (eqb s (spelled (name Sheet))) Sheet
+    (cond (eqb s (spelled (name State))) State (cond (eqb s (spelled (name Page))) Page (cond (eqb s (spelled (name Word))) Word Do)))
 
-kind-of-width : (kind : Line) → kind ≡ kindOf (width kind)
-unfolding kindOf
-kind-of-width Sheet = refl
-kind-of-width State = refl
-kind-of-width Page = refl
-kind-of-width Word = refl
-kind-of-width Do = refl
+kind-of-name : (kind : Line) → kind ≡ kindOf (spelled (name kind))
+unfolding kindOf spelled
+kind-of-name Sheet = refl
+kind-of-name State = refl
+kind-of-name Page = refl
+kind-of-name Word = refl
+kind-of-name Do = refl
 
 pub one-kind : (kind other : Line) (l : List ℕ) → isLine kind l ≡ true → isLine other l ≡ true → kind ≡ other
 one-kind kind other l h k =
-    kind-of-width kind ∙ ap kindOf (sym (line-parts kind l h .1) ∙ line-parts other l k .1) ∙ sym (kind-of-width other)
+    kind-of-name kind ∙ ap (λ (n : List ℕ). kindOf (spelled n)) (sym (line-named kind l h) ∙ line-named other l k) ∙ sym (kind-of-name other)
 
 -- ---- texts
 

@@ -1,25 +1,36 @@
 -- The turns of the loops: what each definition gives from a place on, in the terms of the code. Assumes nothing.
-use Prim.Native.Nat.{ℕ, _+_, _-_, _*_, _/_, _%_, _^_, _<_, _≤_}
+use Prim.Native.Nat.{ℕ, suc, _+_, _-_, _*_, _/_, _%_, _^_, _<_, _≤_}
 use mathlib.Core.Path.{_≡_, refl, ap, _∙_}
-use mathlib.Core.Bool.{false, true, _&&_}
+use mathlib.Core.Bool.{Bool, false, true, and-true, _&&_}
 use mathlib.Core.List.{List, [], _∷_, _++_}
 use native.Mathlib.Nat.{pow-suc, pow-le-pow-right}
 use native.Mathlib.Numerals.{add-one}
 use native.Mathlib.Omega.{arith}
-use lib.Dec.{lit<}
+use lib.Dec.{lit<, eqb}
 use lib.ListN.{length, getD, take, drop, set, length-append, length-drop, drop-of-length-le}
-use lib.Seq.{take-all, drop-cons}
-use Rattle.sheet.specs.Digits.{digit, digitValue, hex, number, tab, lineFeed, valueFrom}
-use Rattle.sheet.specs.Lines.{name, begins, fitsMark, fields, form, line}
+use lib.Seq.{take-all, drop-cons, drop-drop}
+use Rattle.sheet.specs.Digits.{digit, digitValue, hex, number, tab, lineFeed, valueFrom, valueOf}
+use Rattle.numbers.specs.Numbers.{inside}
+use Rattle.numbers.specs.Buffers.{laid}
+use Rattle.numbers.proofs.Laws.{ends-inside, length-laid, laid-last, laid-nil, laid-turn}
+use Rattle.sheet.specs.Lines.{name, fieldCount, numberForm, fieldForms, begins, fitsMark, numeral, fields, form, first, width, line, fitsLine, putLine}
 use Rattle.sheet.specs.declared.line.Line.{Line}
-use Rattle.sheet.specs.declared.line.Line.the-variants.{Sheet, State, Page, Word, Do}
-use Rattle.sheet.specs.Buffers.{laid, laidIf}
-use Rattle.sheet.proofs.BufferLaws.{length-laid, laid-last, laid-nil, laid-turn}
-use Rattle.sheet.proofs.DigitLaws.{hex-length, number-length}
-use Rattle.sheet.proofs.Fields.{fields-length}
-use borrow.Author.Tests.{le-leb, lt-leb}
+use Rattle.sheet.specs.declared.digits.Numeral.the-variants.{Number, NoNumber}
+use Rattle.sheet.proofs.DigitLaws.{both, hex-length, number-length}
+use Rattle.sheet.proofs.Fields.{fields-length, forms-length}
+use Rattle.sheet.proofs.FormLaws.{begins-room, begins-append, begins-take}
+use Rattle.sheet.proofs.LineLaws.{line-room}
+use borrow.Author.Tests.{eqb-true}
+
+not-so : (b : Bool) → (b ≡ true → ⊥) → b ≡ false
+not-so true other = absurd (other refl)
+not-so false other = refl
 
 -- ---- a form against a text
+
+feed-test : (u : List ℕ) (i : ℕ) → i < length u → begins (lineFeed ∷ []) (drop i u) ≡ eqb (getD u i 0) lineFeed
+unfolding begins
+feed-test u i more = rw (drop-cons u i 0 more, and-true)
 
 module _ (marks text : List ℕ) (i : ℕ) where
   pub begins-turn : i < length marks → i < length text → begins (drop i marks) (drop i text) ≡ (fitsMark (getD marks i 0) (getD text i 0) && begins (drop (i + 1) marks) (drop (i + 1) text))
@@ -34,18 +45,61 @@ module _ (marks text : List ℕ) (i : ℕ) where
   unfolding begins
   begins-end end = rw (drop-of-length-le marks end)
 
+-- fields of which the first is tested by itself
+pub fields-stand-turn : (left here : ℕ) (text : List ℕ) → 0 < left
+    → begins (fieldForms left) (drop here text) ≡ (begins (tab ∷ numberForm) (take 18 (drop here text)) && begins (fieldForms (left - 1)) (drop (here + 18) text))
+unfolding fieldForms
+fields-stand-turn left here text more =
+    let one : left ≡ suc (left - 1) = omega arith in
+    ap (λ (n : ℕ). begins (fieldForms n) (drop here text)) one
+    ∙ begins-append (tab ∷ numberForm) (fieldForms (left - 1)) (drop here text)
+    ∙ rw (begins-take (tab ∷ numberForm) (drop here text) 18 (omega arith), drop-drop 18 here text)
+
+pub fields-stand-end : (left : ℕ) (u : List ℕ) → left ≤ 0 → begins (fieldForms left) u ≡ true
+unfolding fieldForms begins
+fields-stand-end left u none = let zero-is : left ≡ 0 = omega arith in rw zero-is
+
+-- a line, as it is tested: its name, its fields, its line feed
+module _ (kind : Line) (u : List ℕ) where
+  pub line-short : length u < width kind → begins (form kind) u ≡ false
+  line-short short = not-so (begins (form kind) u) (λ h. let room = line-room kind u h in omega arith)
+
+  pub line-tested : width kind ≤ length u
+      → begins (form kind) u ≡ (begins (name kind) u && (begins (fieldForms (fieldCount kind)) (drop (first kind - 1) u) && eqb (getD u (width kind - 1) 0) lineFeed))
+  unfolding form
+  line-tested room =
+      let n = fieldCount kind in
+      let named : first kind - 1 ≡ length (name kind) = omega arith in
+      let last : length (name kind) + 18 * n ≡ width kind - 1 = omega arith in
+      begins-append (name kind) (fieldForms n ++ (lineFeed ∷ [])) u
+      ∙ rw (begins-append (fieldForms n) (lineFeed ∷ []) (drop (length (name kind)) u), forms-length n, drop-drop (18 * n) (length (name kind)) u, last, named,
+        feed-test u (width kind - 1) (omega arith))
+
 -- no line stands in an empty text
-pub begins-nothing : (kind : Line) → begins (form kind) [] ≡ false
-unfolding begins form
-begins-nothing Sheet = refl
-begins-nothing State = refl
-begins-nothing Page = refl
-begins-nothing Word = refl
-begins-nothing Do = refl
+pub line-none : (kind : Line) → begins (form kind) [] ≡ false
+line-none kind = line-short kind [] (omega arith)
 
 -- the part of a text from a place on, as the code lends it
 pub rest-whole : (text : List ℕ) (at : ℕ) → take (length text - at) (drop at text) ≡ drop at text
 rest-whole text at = take-all (length text - at) (drop at text) (simp length-drop (omega arith))
+
+-- ---- a number at a place
+
+module _ (text : List ℕ) (at : ℕ) where
+  pub no-numeral : length text ≤ at → numeral (drop at text) ≡ NoNumber
+  unfolding numeral begins
+  no-numeral end = rw (drop-of-length-le text end)
+
+  pub no-form : begins numberForm (drop at text) ≡ false → numeral (drop at text) ≡ NoNumber
+  unfolding numeral
+  no-form other = rw other
+
+  pub formed-numeral : begins numberForm (drop at text) ≡ true → numeral (drop at text) ≡ Number (valueOf (take 16 (drop (at + 1) text)))
+  unfolding numeral
+  formed-numeral formed = rw (formed, drop-drop 1 at text)
+
+  pub formed-room : begins numberForm (drop at text) ≡ true → at + 1 + 16 ≤ length text
+  formed-room formed = let room = begins-room numberForm (drop at text) formed in let left = length-drop at text in omega arith
 
 -- ---- digits, read from the left
 
@@ -99,26 +153,29 @@ fields-end out at values i end = rw (drop-of-length-le values end) (laid-nil out
 
 -- ---- a line
 
-pub line-long : (kind : Line) (vs : List ℕ) → length (line kind vs) ≡ length (name kind) + (18 * length vs + 1)
+line-long : (kind : Line) (vs : List ℕ) → length (line kind vs) ≡ length (name kind) + (18 * length vs + 1)
 unfolding line
 line-long kind vs = rw (length-append (name kind) (fields vs ++ (lineFeed ∷ [])), length-append (fields vs) (lineFeed ∷ []), fields-length vs)
 
--- a line that does not fit
-pub line-out : (out : List ℕ) (at : ℕ) (kind : Line) (vs : List ℕ) → length out < at + (length (name kind) + (18 * length vs + 1)) → out ≡ laidIf out at (line kind vs)
-unfolding laidIf
-line-out out at kind vs long = rw (line-long kind vs, lt-leb (at + (length (name kind) + (18 * length vs + 1))) (length out) long)
+-- a line that is not put
+pub line-kept : (kind : Line) (vs out : List ℕ) (at : ℕ) → fitsLine kind (length vs) (length out) at ≡ false → out ≡ putLine kind vs out at
+unfolding putLine
+line-kept kind vs out at none = rw none
 
--- a line that fits, as it is laid: its name, its fields, the line feed
-pub line-laid : (out : List ℕ) (at : ℕ) (kind : Line) (vs : List ℕ) (named ended : ℕ) → named ≡ length (name kind) → ended ≡ named + 18 * length vs
-    → at + (ended + 1) ≤ length out
-    → laid (laid (laid out at (name kind)) (at + named) (fields vs)) (at + ended) (lineFeed ∷ []) ≡ laidIf out at (line kind vs)
-unfolding laidIf line
-line-laid out at kind vs named ended is-named is-ended room =
-    let whole : at + length (name kind ++ (fields vs ++ (lineFeed ∷ []))) ≤ length out
-    = rw (length-append (name kind) (fields vs ++ (lineFeed ∷ [])), length-append (fields vs) (lineFeed ∷ []), fields-length vs) (omega arith)
-    in
-    let kept : length (laid out at (name kind)) ≡ length out = length-laid out at (name kind) (omega arith) in
-    let fits : at + named + length (fields vs) ≤ length (laid out at (name kind)) = rw (kept, fields-length vs) (omega arith) in
-    let last : at + named + length (fields vs) ≡ at + ended = rw (fields-length vs) (omega arith) in
-    rw (le-leb (at + length (name kind ++ (fields vs ++ (lineFeed ∷ [])))) (length out) whole)
-    (rw (laid-turn out at (name kind) (fields vs ++ (lineFeed ∷ [])) (omega arith), ← is-named, laid-turn (laid out at (name kind)) (at + named) (fields vs) (lineFeed ∷ []) fits, last))
+pub fits-parts : (kind : Line) (count lent at : ℕ) → fitsLine kind count lent at ≡ true → (count ≡ fieldCount kind) × (at + width kind ≤ lent)
+unfolding fitsLine
+fits-parts kind count lent at h =
+    let parts = both (eqb count (fieldCount kind)) (inside lent at (width kind)) h in
+    (eqb-true count (fieldCount kind) (parts .0), ends-inside lent at (width kind) (parts .1))
+
+-- a line that is put, as it is laid: its name, its fields, the line feed
+pub line-laid : (kind : Line) (vs out : List ℕ) (at : ℕ) → fitsLine kind (length vs) (length out) at ≡ true
+    → laid (laid (laid out at (name kind)) (at + (first kind - 1)) (fields vs)) (at + (width kind - 1)) (lineFeed ∷ []) ≡ putLine kind vs out at
+unfolding putLine line
+line-laid kind vs out at h =
+    let parts = fits-parts kind (length vs) (length out) at h in
+    let named : at + (first kind - 1) ≡ at + length (name kind) = omega arith in
+    let ended : at + (width kind - 1) ≡ at + length (name kind) + length (fields vs) = rw (fields-length vs) (omega (arith, parts .0)) in
+    let kept : length (laid out at (name kind)) ≡ length out = length-laid out at (name kind) (omega (arith, parts .1)) in
+    let room : at + length (name kind) + length (fields vs) ≤ length (laid out at (name kind)) = rw (kept, fields-length vs) (omega (arith, parts .0, parts .1)) in
+    rw (h, named, ended, laid-turn out at (name kind) (fields vs ++ (lineFeed ∷ [])) (omega (arith, parts .1)), laid-turn (laid out at (name kind)) (at + length (name kind)) (fields vs) (lineFeed ∷ []) room)

@@ -5,4 +5,3 @@ pub mod Digits
 pub mod Lines
 pub mod Sheets
 pub mod Reading
-pub mod Buffers

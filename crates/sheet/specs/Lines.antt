@@ -1,11 +1,18 @@
 -- The lines of a sheet (docs/RULES.md, "Run sheets"): a name, then its numbers, each behind a tab, then a line feed. What holds of
--- one kind of line holds of all five, so everything here takes the kind. Assumes nothing.
-use Prim.Native.Nat.{ℕ, zero, suc}
+-- one kind of line holds of all, so everything here takes the kind. A further kind has a name and a count of numbers, and nothing else.
+-- Assumes nothing.
+use Prim.Native.Nat.{ℕ, zero, suc, _+_, _*_}
 use mathlib.Core.Bool.{Bool, true, false, cond, _&&_}
 use mathlib.Core.List.{List, [], _∷_, _++_}
 use lib.ListN.{length, take, drop, replicate}
 use lib.Dec.{eqb}
+use Rattle.numbers.specs.Numbers.{inside}
+use Rattle.numbers.specs.Buffers.{laid}
+use Rattle.processor.specs.Layout.{fields as stateFields}
+use Rattle.instructions.specs.Instruction.{instructionWords}
 use Rattle.sheet.specs.Digits.{tab, lineFeed, letterX, digits, number, isDigit, valueOf}
+use Rattle.sheet.specs.declared.digits.Numeral.{Numeral}
+use Rattle.sheet.specs.declared.digits.Numeral.the-variants.{Number, NoNumber}
 use Rattle.sheet.specs.declared.line.Line.{Line}
 use Rattle.sheet.specs.declared.line.Line.the-variants.{Sheet, State, Page, Word, Do}
 
@@ -19,13 +26,13 @@ name Page = 112 ∷ 97 ∷ 103 ∷ 101 ∷ []
 name Word = 119 ∷ 111 ∷ 114 ∷ 100 ∷ []
 name Do = 100 ∷ 111 ∷ []
 
--- how many numbers a line has: the version; a state's ten fields; a page's entry; an address and the value there; an instruction's four words
+-- how many numbers a line has: the version; a state's fields; a page's entry; an address and the value there; an instruction's words
 abbrev pub fieldCount : Line → ℕ
 fieldCount Sheet = 1
-fieldCount State = 10
+fieldCount State = stateFields
 fieldCount Page = 1
 fieldCount Word = 2
-fieldCount Do = 4
+fieldCount Do = instructionWords
 
 unfoldable pub fields : List ℕ → List ℕ
 fields [] = []
@@ -56,9 +63,12 @@ lines (c ∷ cs) = cond (eqb c lineFeed) ((c ∷ []) ∷ lines cs) (inFront c (l
 abbrev pub anyDigit : ℕ
 anyDigit = 35
 
+abbrev pub numberForm : List ℕ
+numberForm = letterX ∷ replicate digits anyDigit
+
 unfoldable pub fieldForms : ℕ → List ℕ
 fieldForms zero = []
-fieldForms (suc n) = tab ∷ letterX ∷ (replicate digits anyDigit ++ fieldForms n)
+fieldForms (suc n) = tab ∷ (numberForm ++ fieldForms n)
 
 -- what every line of a kind looks like
 unfoldable pub form : Line → List ℕ
@@ -73,13 +83,21 @@ begins [] text = true
 begins (mark ∷ marks) [] = false
 begins (mark ∷ marks) (c ∷ cs) = fitsMark mark c && begins marks cs
 
+-- the number with which a text begins
+unfoldable pub numeral : List ℕ → Numeral
+numeral u = cond (begins numberForm u) (Number (valueOf (take digits (drop 1 u)))) NoNumber
+
+-- how long a number is with the tab before it
+abbrev pub fieldBytes : ℕ
+fieldBytes = 18
+
+-- where the first number of a line of a kind begins; the next is a field further
+abbrev pub first : Line → ℕ
+first kind = length (name kind) + 1
+
 -- how long every line of a kind is
 abbrev pub width : Line → ℕ
-width Sheet = 24
-width State = 186
-width Page = 23
-width Word = 41
-width Do = 75
+width kind = first kind + fieldBytes * fieldCount kind
 
 -- a line is of a kind: it has the form, to its last byte
 unfoldable pub isLine : Line → List ℕ → Bool
@@ -88,8 +106,18 @@ isLine kind l = begins (form kind) l && eqb (length l) (width kind)
 -- the n numbers whose tabs begin here
 unfoldable pub valuesIn : ℕ → List ℕ → List ℕ
 valuesIn zero cs = []
-valuesIn (suc n) cs = valueOf (take digits (drop 2 cs)) ∷ valuesIn n (drop 18 cs)
+valuesIn (suc n) cs = valueOf (take digits (drop 2 cs)) ∷ valuesIn n (drop fieldBytes cs)
 
 -- the numbers of a line
 unfoldable pub values : Line → List ℕ → List ℕ
 values kind l = valuesIn (fieldCount kind) (drop (length (name kind)) l)
+
+-- ---- writing a line into a text
+
+-- a line of a kind with so many numbers is one, and has its room at a place of a text of this length
+unfoldable pub fitsLine : Line → ℕ → ℕ → ℕ → Bool
+fitsLine kind count lent at = eqb count (fieldCount kind) && inside lent at (width kind)
+
+-- the text with the line, or as it was
+unfoldable pub putLine : Line → List ℕ → List ℕ → ℕ → List ℕ
+putLine kind vs text at = cond (fitsLine kind (length vs) (length text) at) (laid text at (line kind vs)) text

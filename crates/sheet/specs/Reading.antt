@@ -1,12 +1,13 @@
 -- Reading a sheet: from its lines, stage by stage; each stage takes lines while they are its own, and the first line that is left over
 -- is refused. That this is the inverse of `text`, and that the refused line is the first that no sheet has, is proved
 -- (crates/sheet_claims), so it need not be believed. Assumes nothing.
-use Prim.Native.Nat.{ℕ, zero, suc, _+_, _-_, _/_, _%_}
+use Prim.Native.Nat.{ℕ, zero, suc, _+_, _-_}
 use mathlib.Core.Bool.{Bool, not, cond, _&&_}
 use mathlib.Core.List.{List, [], _∷_, _++_}
 use lib.ListN.{length, getD, take, drop}
 use lib.Dec.{eqb, leb}
 use Rattle.pages.specs.Pages.{pageOf}
+use Rattle.numbers.specs.Numbers.{littleBytes}
 use Rattle.sheet.specs.Lines.{isLine, values, lines}
 use Rattle.sheet.specs.Sheets.{Page, Saved, frameOf, slots, version}
 use Rattle.sheet.specs.declared.line.Line.{Line}
@@ -25,10 +26,24 @@ value kind i l = getD (values kind l) i 0
 abbrev pub next : List (List ℕ) → List ℕ
 next ls = getD ls 0 []
 
--- ---- sheet and state
+-- ---- plain lines: any number of one kind, whose numbers are just listed
 
-unfoldable pub isHead : List ℕ → Bool
-isHead l = isLine Sheet l && eqb (value Sheet 0 l) version
+-- how many lines are of a kind
+unfoldable pub plainCount : Line → List (List ℕ) → ℕ
+plainCount kind [] = 0
+plainCount kind (l ∷ ls) = cond (isLine kind l) (suc (plainCount kind ls)) 0
+
+-- all the numbers of these lines of a kind, one behind the other
+unfoldable pub numbers : Line → List (List ℕ) → List ℕ
+numbers kind [] = []
+numbers kind (l ∷ ls) = values kind l ++ numbers kind ls
+
+-- what a stage of plain lines takes, and what it leaves
+abbrev pub plainNumbers : Line → List (List ℕ) → List ℕ
+plainNumbers kind ls = numbers kind (take (plainCount kind ls) ls)
+
+abbrev pub pastPlain : Line → List (List ℕ) → List (List ℕ)
+pastPlain kind ls = drop (plainCount kind ls) ls
 
 -- ---- pages
 
@@ -37,11 +52,6 @@ unfoldable pub pageCount : ℕ → List (List ℕ) → ℕ
 pageCount least [] = 0
 pageCount least (l ∷ ls) =
     cond (isLine PageLine l && leb least (frameOf (value PageLine 0 l))) (suc (pageCount (suc (frameOf (value PageLine 0 l))) ls)) 0
-
--- all the numbers of these lines of a kind, one behind the other
-unfoldable pub numbers : Line → List (List ℕ) → List ℕ
-numbers kind [] = []
-numbers kind (l ∷ ls) = values kind l ++ numbers kind ls
 
 -- ---- words: the pages' addresses are walked 8 by 8, and the next line is taken where it is this address's. A line that is out of order, off
 -- its 8, on no page or 0 is none's, and left over.
@@ -57,11 +67,6 @@ slotValue address ls = cond (isWord address (next ls)) (value Word 1 (next ls)) 
 -- the lines left
 unfoldable pub pastSlot : ℕ → List (List ℕ) → List (List ℕ)
 pastSlot address ls = cond (isWord address (next ls)) (drop 1 ls) ls
-
--- the n lowest bytes of a number, low byte first
-unfoldable pub littleBytes : ℕ → ℕ → List ℕ
-littleBytes zero v = []
-littleBytes (suc n) v = v % 256 ∷ littleBytes n (v / 256)
 
 -- the bytes of n aligned values of 8, from an address on
 unfoldable pub slotBytes : ℕ → ℕ → List (List ℕ) → List ℕ
@@ -83,12 +88,6 @@ unfoldable pub pastPages : List ℕ → List (List ℕ) → List (List ℕ)
 pastPages [] ls = ls
 pastPages (entry ∷ entries) ls = pastPages entries (pastSlots (pageOf entry) slots ls)
 
--- ---- instructions
-
-unfoldable pub doCount : List (List ℕ) → ℕ
-doCount [] = 0
-doCount (l ∷ ls) = cond (isLine Do l) (suc (doCount ls)) 0
-
 -- ---- a whole sheet
 
 -- how the lines after `sheet` and `state` are shared out
@@ -99,7 +98,7 @@ pub record Stages : Type 0 where
   pub left : List (List ℕ)
 
 abbrev pub doStage : List ℕ → List Page → List (List ℕ) → Stages
-doStage entries pages ls = record { entries = entries; pages = pages; words = numbers Do (take (doCount ls) ls); left = drop (doCount ls) ls }
+doStage entries pages ls = record { entries = entries; pages = pages; words = plainNumbers Do ls; left = pastPlain Do ls }
 
 abbrev pub wordStage : List ℕ → List (List ℕ) → Stages
 wordStage entries ls = doStage entries (pagesIn entries ls) (pastPages entries ls)
@@ -113,13 +112,17 @@ finished state all s =
     cond (eqb (length (s .left)) 0) (sheet (record { state = state; pages = s .pages; words = s .words }))
     (noSheet (suc (all - length (s .left))))
 
+-- the lines behind the first: the state, then the stages
+unfoldable pub parsedBody : List (List ℕ) → Parsed
+parsedBody ls =
+    cond (isLine StateLine (next ls)) (finished (values StateLine (next ls)) (suc (length ls)) (stages (drop 1 ls))) (noSheet 2)
+
+-- by the version that the first line names: one is known
+unfoldable pub parsedBy : ℕ → List (List ℕ) → Parsed
+parsedBy named ls = cond (eqb named version) (parsedBody ls) (noSheet 1)
+
 unfoldable pub parsedLines : List (List ℕ) → Parsed
-parsedLines ls =
-    cond (isHead (next ls))
-    (cond (isLine StateLine (next (drop 1 ls)))
-    (finished (values StateLine (next (drop 1 ls))) (length ls) (stages (drop 2 ls)))
-    (noSheet 2))
-    (noSheet 1)
+parsedLines ls = cond (isLine Sheet (next ls)) (parsedBy (value Sheet 0 (next ls)) (drop 1 ls)) (noSheet 1)
 
 unfoldable pub parsed : List ℕ → Parsed
 parsed t = parsedLines (lines t)

@@ -1,14 +1,16 @@
 -- A saved run and its sheet (docs/RULES.md, "Run sheets"). This file, and the writing halves of Digits and Lines, are what a reader must
 -- believe; that reading is the inverse of `text` is proved (crates/sheet_claims). Assumes nothing.
-use Prim.Native.Nat.{ℕ, zero, suc, _+_, _*_, _/_, _%_, _^_, _<_, _≤_}
+use Prim.Native.Nat.{ℕ, zero, suc, _+_, _/_, _%_, _^_, _<_, _≤_}
 use mathlib.Core.Path.{_≡_}
 use mathlib.Core.Bool.{cond}
 use mathlib.Core.List.{List, [], _∷_, _++_}
-use lib.ListN.{length, getD, take, drop}
+use lib.ListN.{length, take, drop}
 use lib.Dec.{eqb, leb}
 use Rattle.pages.specs.Pages.{pageBytes, pageOf}
+use Rattle.numbers.specs.Numbers.{numberAt}
 use Rattle.sheet.specs.Digits.{Below}
 use Rattle.sheet.specs.Lines.{fieldCount, line, joined}
+use Rattle.sheet.specs.declared.line.Line.{Line}
 use Rattle.sheet.specs.declared.line.Line.the-variants.{Sheet, State as StateLine, Page as PageLine, Word, Do}
 
 -- ---- a saved run
@@ -18,7 +20,7 @@ pub record Page : Type 0 where
   pub entry : ℕ
   pub bytes : List ℕ
 
--- The ten fields of a state, the pages, and the instructions, four words each. What `word` lines hold is in the pages' bytes.
+-- The fields of a state, the pages, and the instructions, four words each. What `word` lines hold is in the pages' bytes.
 pub record Saved : Type 0 where
   pub state : List ℕ
   pub pages : List Page
@@ -43,22 +45,17 @@ unfoldable pub WholePages : List Page → Type 0
 WholePages [] = Unit {0}
 WholePages (p ∷ ps) = WholePage p × WholePages ps
 
--- A run that has a sheet: ten fields, pages ascending, four words to each instruction. Nothing else is asked: a run that is refused
+-- A run that has a sheet: all fields of a state, pages ascending, four words to each instruction. Nothing else is asked: a run that is refused
 -- (a kind 0, a 17th page, a state out of range) has a sheet too.
 pub record Sheeted (s : Saved) : Type 0 where
   pub fields : length (s .state) ≡ fieldCount StateLine
   pub state : Below (2 ^ 64) (s .state)
   pub ascending : Ascending 0 (s .pages)
   pub pages : WholePages (s .pages)
-  pub whole : length (s .words) % 4 ≡ 0
+  pub whole : length (s .words) % fieldCount Do ≡ 0
   pub words : Below (2 ^ 64) (s .words)
 
 -- ---- its lines
-
--- the number that the first n bytes hold, low byte first
-unfoldable pub little : ℕ → List ℕ → ℕ
-little zero bytes = 0
-little (suc n) bytes = getD bytes 0 0 + 256 * little n (drop 1 bytes)
 
 -- one line for a nonzero value, none for 0
 abbrev pub wordLine : ℕ → ℕ → List (List ℕ)
@@ -67,7 +64,7 @@ wordLine address value = cond (eqb value 0) [] (line Word (address ∷ value ∷
 -- n aligned values of 8 bytes, from an address on
 unfoldable pub wordLines : ℕ → ℕ → List ℕ → List (List ℕ)
 wordLines address zero bytes = []
-wordLines address (suc n) bytes = wordLine address (little 8 bytes) ++ wordLines (address + 8) n (drop 8 bytes)
+wordLines address (suc n) bytes = wordLine address (numberAt bytes 0 8) ++ wordLines (address + 8) n (drop 8 bytes)
 
 -- how many values of 8 bytes a page has
 abbrev pub slots : ℕ
@@ -84,10 +81,14 @@ unfoldable pub pageLines : List Page → List (List ℕ)
 pageLines [] = []
 pageLines (p ∷ ps) = line PageLine (p .entry ∷ []) ∷ pageLines ps
 
--- n instructions of four words
-unfoldable pub doLines : ℕ → List ℕ → List (List ℕ)
-doLines zero words = []
-doLines (suc n) words = line Do (take 4 words) ∷ doLines n (drop 4 words)
+-- n plain lines of a kind: its numbers, just listed
+unfoldable pub plainLines : Line → ℕ → List ℕ → List (List ℕ)
+plainLines kind zero numbers = []
+plainLines kind (suc n) numbers = line kind (take (fieldCount kind) numbers) ∷ plainLines kind n (drop (fieldCount kind) numbers)
+
+-- all of them
+abbrev pub allPlain : Line → List ℕ → List (List ℕ)
+allPlain kind numbers = plainLines kind (length numbers / fieldCount kind) numbers
 
 -- the newest version
 abbrev pub version : ℕ
@@ -98,7 +99,7 @@ unfoldable pub sheetLines : Saved → List (List ℕ)
 sheetLines s =
     line Sheet (version ∷ [])
     ∷ line StateLine (s .state)
-    ∷ (pageLines (s .pages) ++ (pagesWords (s .pages) ++ doLines (length (s .words) / 4) (s .words)))
+    ∷ (pageLines (s .pages) ++ (pagesWords (s .pages) ++ allPlain Do (s .words)))
 
 unfoldable pub text : Saved → List ℕ
 text s = joined (sheetLines s)

@@ -1,29 +1,19 @@
-// Hexadecimal digits.
+// Hexadecimal digits, and the numbers that they make.
 ghost use mathlib.Core.Path.{_≡_};
 ghost use Prim.Native.Nat.{_<_, _≤_};
-ghost use lib.ListN.{length, take, drop};
-ghost use Rattle.sheet.specs.Digits.{digits as digitCount, digit as digitOf, isDigit, digitValue as digitValueOf, valueOf};
+ghost use lib.ListN.{length, drop};
+ghost use Rattle.sheet.specs.Digits.{digits as digitCount, digit as digitOf, digitValue as digitValueOf, valueOf};
+ghost use Rattle.sheet.specs.Lines.{numeral};
+use crate::forms::begins;
 
 // How many digits every number has.
 pub(crate) const DIGITS: usize = 16;
 
-// How many bytes a field has: a tab, the letter x and the digits.
-pub const FIELD: usize = 18;
-
-// Whether a character is a digit, 0 to 9 or a to f.
-pub(crate) fn is_digit(c: u8) -> bool
-    ensures { λ r. ⌜ r ≡ isDigit c ⌝ }
-{
-    if c < 48 {
-        return false;
-    }
-    if c <= 57 {
-        return true;
-    }
-    if c < 97 {
-        return false;
-    }
-    c <= 102
+// What stands at a place of a text.
+pub enum Numeral {
+    Number(u64),
+    // Anything else than the letter x and 16 digits.
+    NoNumber,
 }
 
 // What a digit stands for; of any other character, some number below 16.
@@ -60,17 +50,17 @@ fn value(digits: &[u8]) -> u64
     v
 }
 
-// The number whose digits stand at a place of a text: of the 16 characters there, or as many as there are.
-pub fn number(text: &[u8], at: usize) -> u64
-    ensures { λ r. ⌜ r ≡ valueOf (take digitCount (drop at (now (text .entry)))) ⌝ }
+// The number at a place of a text, or that none stands there.
+pub fn number(text: &[u8], at: usize) -> Numeral
+    ensures { λ r. ⌜ r ≡ numeral (drop at (now (text .entry))) ⌝ }
 {
     if text.len() <= at {
-        return 0;
+        return Numeral::NoNumber;
     }
-    let left = text.len() - at;
-    if left < DIGITS {
-        return value(&text[at..]);
+    if !begins(b"x################", &text[at..]) {
+        return Numeral::NoNumber;
     }
-    let end = at + DIGITS;
-    value(&text[at..end])
+    let first = at + 1;
+    let end = first + DIGITS;
+    Numeral::Number(value(&text[first..end]))
 }

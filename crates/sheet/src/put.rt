@@ -3,25 +3,15 @@ ghost use mathlib.Core.Path.{_≡_};
 ghost use mathlib.Core.List.{_∷_};
 ghost use Prim.Native.Nat.{_+_, _≤_};
 ghost use lib.ListN.{length};
+ghost use Rattle.numbers.specs.Buffers.{laid};
 ghost use Rattle.sheet.specs.Digits.{hex, number, tab};
-ghost use Rattle.sheet.specs.Lines.{name, fields as fieldsOf, line as lineOf};
-ghost use Rattle.sheet.specs.Buffers.{laid, laidIf};
+ghost use Rattle.sheet.specs.Lines.{name, fields as fieldsOf, fitsLine, putLine};
 use crate::digits::DIGITS;
-use crate::digits::FIELD;
 use crate::digits::digit;
+use crate::forms::FIELD;
 use crate::line::Line;
-
-// Copies characters into a text from a place on.
-fn copy(piece: &[u8], text: &mut [u8], at: usize)
-    requires { ⌜ at + length (now piece) ≤ length (now text) ⌝ }
-    ensures { λ _. ⌜ now (text .exit) ≡ laid (now (text .entry)) at (now (piece .entry)) ⌝ }
-{
-    let mut i = 0;
-    while i < piece.len() {
-        text[at + i] = piece[i];
-        i += 1;
-    }
-}
+use numbers::copy_bytes;
+use numbers::has_room;
 
 // Writes the digits of a number, lowest first, so that each is a remainder.
 fn put_digits(v: u64, text: &mut [u8], at: usize)
@@ -42,7 +32,7 @@ fn put_field(v: u64, text: &mut [u8], at: usize)
     requires { ⌜ at + 18 ≤ length (now text) ⌝ }
     ensures { λ _. ⌜ now (text .exit) ≡ laid (now (text .entry)) at (tab ∷ number v) ⌝ }
 {
-    copy(b"\tx", text, at);
+    copy_bytes(b"\tx", text, at);
     put_digits(v, text, at + 2);
 }
 
@@ -64,33 +54,36 @@ impl Line {
         ensures { λ _. ⌜ now (text .exit) ≡ laid (now (text .entry)) at (name self) ⌝ }
     {
         match self {
-            Line::Sheet => copy(b"sheet", text, at),
-            Line::State => copy(b"state", text, at),
-            Line::Page => copy(b"page", text, at),
-            Line::Word => copy(b"word", text, at),
-            Line::Do => copy(b"do", text, at),
-        }
+            Line::Sheet => copy_bytes(b"sheet", text, at),
+            Line::State => copy_bytes(b"state", text, at),
+            Line::Page => copy_bytes(b"page", text, at),
+            Line::Word => copy_bytes(b"word", text, at),
+            Line::Do => copy_bytes(b"do", text, at),
+        };
     }
 
-    // Writes a line with these numbers from a place on; nothing where it does not fit.
-    pub fn put(self, values: &[u64], text: &mut [u8], at: usize)
-        ensures { λ _. ⌜ now (text .exit) ≡ laidIf (now (text .entry)) at (lineOf self (now (values .entry))) ⌝ }
+    // Whether a line with so many numbers is one of this kind and has its room at a place of a text of this length.
+    fn fits(self, count: usize, lent: usize, at: usize) -> bool
+        ensures { λ r. ⌜ r ≡ fitsLine self count lent at ⌝ }
     {
-        if text.len() <= at {
-            return;
+        if count != self.count() {
+            return false;
         }
-        let room = text.len() - at - 1;
-        let named = self.first() - 2;
-        if room < named {
-            return;
+        has_room(lent, at, self.width())
+    }
+
+    // Writes a line with these numbers from a place on, or nothing where they are not as many as such a line has, or it does not fit; and
+    // says which.
+    pub fn put(self, values: &[u64], text: &mut [u8], at: usize) -> bool
+        ensures told { λ r. ⌜ r ≡ fitsLine self (length (now (values .entry))) (length (now (text .entry))) at ⌝ }
+        ensures put { λ _. ⌜ now (text .exit) ≡ putLine self (now (values .entry)) (now (text .entry)) at ⌝ }
+    {
+        if !self.fits(values.len(), text.len(), at) {
+            return false;
         }
-        // A quotient, since the product of a long list could wrap.
-        if (room - named) / FIELD < values.len() {
-            return;
-        }
-        let ended = named + FIELD * values.len();
         self.put_name(text, at);
-        put_fields(values, text, at + named);
-        copy(b"\n", text, at + ended);
+        put_fields(values, text, at + (self.first() - 1));
+        copy_bytes(b"\n", text, at + (self.width() - 1));
+        true
     }
 }

@@ -1,71 +1,63 @@
--- `state_of` meets its contract: ten words, ten fields. Assumes nothing.
+-- `state_of` meets its contract: as many words as fields, in their order. Assumes nothing.
+use Rattle.processor.specs.Layout.{stateOf, formed}
+use borrow.Author.Tests.{eq-eqb, ne-eqb}
 use borrow.Author.Needs.{needs}
-use Rattle.processor.proofs.layout.state_of.Tie as tie
-use Rattle.processor.specs.Layout.{stateOf}
 use Rattle.processor.proofs.layout.state_of.Statement.{statement}
-
-word-requires : tie.Need-word-requires
-word-requires c κs = search needs
-
-word-requires-2 : tie.Need-word-requires-2
-word-requires-2 c κs = search needs
-
-word-requires-3 : tie.Need-word-requires-3
-word-requires-3 c κs = search needs
-
-word-requires-4 : tie.Need-word-requires-4
-word-requires-4 c κs = search needs
-
-word-requires-5 : tie.Need-word-requires-5
-word-requires-5 c κs = search needs
-
-word-requires-6 : tie.Need-word-requires-6
-word-requires-6 c κs = search needs
-
-word-requires-7 : tie.Need-word-requires-7
-word-requires-7 c κs = search needs
-
-word-requires-8 : tie.Need-word-requires-8
-word-requires-8 c κs = search needs
-
-word-requires-9 : tie.Need-word-requires-9
-word-requires-9 c κs = search needs
-
-word-requires-10 : tie.Need-word-requires-10
-word-requires-10 c κs = search needs
+use Rattle.processor.proofs.layout.state_of.Tie as tie
 
 returns : tie.Need-returns
-unfolding stateOf
-returns c =
-    let after-word8 = c .before .before in
-    let after-word6 = after-word8 .before .before in
-    let after-word4 = after-word6 .before .before in
-    let after-word2 = after-word4 .before .before in
-    rw (
-      after-word2 .before .word .ensures,
-      after-word2 .word2 .ensures,
-      after-word4 .before .word3 .ensures,
-      after-word4 .word4 .ensures,
-      after-word6 .before .word5 .ensures,
-      after-word6 .word6 .ensures,
-      after-word8 .before .word7 .ensures,
-      after-word8 .word8 .ensures,
-      c .before .word9 .ensures,
-      c .word10 .ensures,
-    )
+unfolding formed
+returns c = rw (ne-eqb _ _ (c .if1 .taken))
+
+shared-slice-read-t5 : tie.Need-shared-slice-read-t5
+shared-slice-read-t5 c = search needs
+
+shared-slice-read-t7 : tie.Need-shared-slice-read-t7
+shared-slice-read-t7 c = search needs
+
+shared-slice-read-t9 : tie.Need-shared-slice-read-t9
+shared-slice-read-t9 c = search needs
+
+shared-slice-read-t11 : tie.Need-shared-slice-read-t11
+shared-slice-read-t11 c = search needs
+
+shared-slice-read-t13 : tie.Need-shared-slice-read-t13
+shared-slice-read-t13 c = search needs
+
+shared-slice-read-t15 : tie.Need-shared-slice-read-t15
+shared-slice-read-t15 c = search needs
+
+shared-slice-read-t17 : tie.Need-shared-slice-read-t17
+shared-slice-read-t17 c = search needs
+
+shared-slice-read-t19 : tie.Need-shared-slice-read-t19
+shared-slice-read-t19 c = search needs
+
+shared-slice-read-t21 : tie.Need-shared-slice-read-t21
+shared-slice-read-t21 c = search needs
+
+shared-slice-read-t23 : tie.Need-shared-slice-read-t23
+shared-slice-read-t23 c = search needs
+
+returns-2 : tie.Need-returns-2
+unfolding formed stateOf
+returns-2 c =
+    let else1 = c .before .before .before .before .before .before .before .before .before .before in
+    rw (eq-eqb _ _ (else1 .if1 .left))
 
 pub state-of-spec : {M : Type 1} → statement M
 state-of-spec =
     tie.close
     (tie.spec
-    word-requires
-    word-requires-2
-    word-requires-3
-    word-requires-4
-    word-requires-5
-    word-requires-6
-    word-requires-7
-    word-requires-8
-    word-requires-9
-    word-requires-10
-    returns)
+    returns
+    shared-slice-read-t5
+    shared-slice-read-t7
+    shared-slice-read-t9
+    shared-slice-read-t11
+    shared-slice-read-t13
+    shared-slice-read-t15
+    shared-slice-read-t17
+    shared-slice-read-t19
+    shared-slice-read-t21
+    shared-slice-read-t23
+    returns-2)

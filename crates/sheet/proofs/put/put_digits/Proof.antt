@@ -2,7 +2,7 @@
 use Rattle.sheet.proofs.Turns.{hex-end, hex-turn}
 use lib.ListN.{length-set, length}
 use Rattle.sheet.specs.Digits.{hex}
-use Rattle.sheet.specs.Buffers.{laid}
+use Rattle.numbers.specs.Buffers.{laid}
 use Prim.Native.Nat.{ℕ, _+_, _-_, _≤_, _<_}
 use mathlib.Core.Path.{_≡_, refl, sym, _∙_}
 use native.Mathlib.Omega.{arith}

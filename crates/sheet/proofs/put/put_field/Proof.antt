@@ -1,20 +1,20 @@
 -- `put_field` meets its contract: the two pieces stand one behind the other. Assumes nothing.
-use lib.ListN.{length}
-use native.Mathlib.Omega.{arith}
-use mathlib.Core.List.{_∷_, []}
-use Rattle.sheet.proofs.BufferLaws.{laid-turn}
-use Rattle.sheet.specs.Digits.{number, tab, letterX, hex}
 use Prim.Native.Nat.{_+_, _≤_}
 use mathlib.Core.Path.{sym}
+use mathlib.Core.List.{_∷_, []}
+use native.Mathlib.Omega.{arith}
+use lib.ListN.{length}
+use Rattle.numbers.proofs.Laws.{laid-if, laid-turn}
+use Rattle.sheet.specs.Digits.{number, tab, letterX, hex}
 use borrow.Author.Needs.{needs}
 use Rattle.sheet.proofs.put.put_field.Statement.{statement}
 use Rattle.sheet.proofs.put.put_field.Tie as tie
 
-slice-aggregate-copy : tie.Need-slice-aggregate-copy
-slice-aggregate-copy c = search needs
+slice-aggregate-copy-bytes : tie.Need-slice-aggregate-copy-bytes
+slice-aggregate-copy-bytes c = search needs
 
-copy-requires : tie.Need-copy-requires
-copy-requires c κs = search needs
+copy-bytes-requires : tie.Need-copy-bytes-requires
+copy-bytes-requires c κs = search needs
 
 add-put-digits : tie.Need-add-put-digits
 add-put-digits c = search needs
@@ -32,14 +32,15 @@ returns c =
     let after-copy = after-put-digits .before .before .before .before in
     let start = after-copy .before .before .before .before in
     let room : start .args .at + 2 ≤ length (start .args .text .now) = omega (arith, start .pre) in
-    rw (after-put-digits .put-digits .ensures, after-copy .copy .ensures) (sym (laid-turn _ _ (tab ∷ letterX ∷ []) (hex 16 _) room))
+    rw (after-put-digits .put-digits .ensures, after-copy .copy-bytes .ensures .1, laid-if _ _ (tab ∷ letterX ∷ []) room)
+    (sym (laid-turn _ _ (tab ∷ letterX ∷ []) (hex 16 _) room))
 
 pub put-field-spec : {M : Type 1} → statement M
 put-field-spec =
     tie.close
     (tie.spec
-    slice-aggregate-copy
-    copy-requires
+    slice-aggregate-copy-bytes
+    copy-bytes-requires
     add-put-digits
     put-digits-requires
     same-length

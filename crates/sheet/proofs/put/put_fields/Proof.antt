@@ -1,9 +1,9 @@
 -- `put_fields` meets its contract. The invariant: the fields still to be laid, from here on, give the whole. Assumes nothing.
 use Rattle.sheet.proofs.Turns.{fields-end, fields-turn}
-use Rattle.sheet.proofs.BufferLaws.{laid-start}
+use Rattle.numbers.proofs.Laws.{laid-start}
 use Rattle.sheet.proofs.LineLaws.{fields-length}
 use Rattle.sheet.specs.Lines.{fields}
-use Rattle.sheet.specs.Buffers.{laid}
+use Rattle.numbers.specs.Buffers.{laid}
 use lib.ListN.{length, drop}
 use Prim.Native.Nat.{_+_, _-_, _*_, _≤_}
 use mathlib.Core.Path.{_≡_, refl, sym, _∙_}

@@ -38,7 +38,7 @@ begins-more (m ∷ ms) (c ∷ cs) v h =
     let parts = both (fitsMark m c) (begins ms cs) h in and-both (parts .0) (begins-more ms cs v (parts .1))
 
 -- a form in two parts
-begins-append : (a b u : List ℕ) → begins (a ++ b) u ≡ (begins a u && begins b (drop (length a) u))
+pub begins-append : (a b u : List ℕ) → begins (a ++ b) u ≡ (begins a u && begins b (drop (length a) u))
 unfolding begins
 begins-append [] b u = refl
 begins-append (m ∷ ms) b [] = refl

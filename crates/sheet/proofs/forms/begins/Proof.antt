@@ -7,8 +7,8 @@ use Prim.Native.Nat.{_-_}
 use mathlib.Core.Path.{_≡_, refl, sym, _∙_}
 use borrow.Author.Needs.{needs}
 use native.Mathlib.Omega.{arith}
-use Rattle.sheet.proofs.line.begins.Statement.{statement}
-use Rattle.sheet.proofs.line.begins.Tie as tie
+use Rattle.sheet.proofs.forms.begins.Statement.{statement}
+use Rattle.sheet.proofs.forms.begins.Tie as tie
 
 abbrev Inv-loop : tie.InvT-loop
 Inv-loop form text i₀ i = begins form text ≡ begins (drop i form) (drop i text)

@@ -1,8 +1,8 @@
 -- `fits_mark` meets its contract. Assumes nothing.
 use borrow.Author.Tests.{eq-eqb, ne-eqb}
 use borrow.Author.Needs.{needs}
-use Rattle.sheet.proofs.line.fits_mark.Statement.{statement}
-use Rattle.sheet.proofs.line.fits_mark.Tie as tie
+use Rattle.sheet.proofs.forms.fits_mark.Statement.{statement}
+use Rattle.sheet.proofs.forms.fits_mark.Tie as tie
 
 is-digit-requires : tie.Need-is-digit-requires
 is-digit-requires c κs = search needs

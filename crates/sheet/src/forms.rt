@@ -1,0 +1,73 @@
+// What a text begins with: a form, in which one mark stands for any digit and every other for itself.
+ghost use mathlib.Core.Path.{_≡_};
+ghost use Prim.Native.Nat.{_+_, _*_, _≤_};
+ghost use lib.ListN.{length, drop};
+ghost use Rattle.sheet.specs.Digits.{isDigit};
+ghost use Rattle.sheet.specs.Lines.{fieldBytes, fieldForms, begins as beginsWith, fitsMark};
+
+// How many bytes a number has with the tab before it.
+pub const FIELD: usize = 18;
+
+// A mark of a form that stands for any digit.
+const ANY_DIGIT: u8 = b'#';
+
+// Whether a character is a digit, 0 to 9 or a to f.
+fn is_digit(c: u8) -> bool
+    ensures { λ r. ⌜ r ≡ isDigit c ⌝ }
+{
+    if c < 48 {
+        return false;
+    }
+    if c <= 57 {
+        return true;
+    }
+    if c < 97 {
+        return false;
+    }
+    c <= 102
+}
+
+fn fits_mark(mark: u8, c: u8) -> bool
+    ensures { λ r. ⌜ r ≡ fitsMark mark c ⌝ }
+{
+    if mark == ANY_DIGIT {
+        is_digit(c)
+    } else {
+        c == mark
+    }
+}
+
+// Whether a text begins with this form.
+pub(crate) fn begins(form: &[u8], text: &[u8]) -> bool
+    ensures { λ r. ⌜ r ≡ beginsWith (now (form .entry)) (now (text .entry)) ⌝ }
+{
+    let mut i = 0;
+    while i < form.len() {
+        if text.len() <= i {
+            return false;
+        }
+        if !fits_mark(form[i], text[i]) {
+            return false;
+        }
+        i += 1;
+    }
+    true
+}
+
+// Whether so many numbers, each behind a tab, stand at a place.
+pub(crate) fn fields_stand(n: usize, text: &[u8], at: usize) -> bool
+    requires { ⌜ at + fieldBytes * n ≤ length (now text) ⌝ }
+    ensures { λ r. ⌜ r ≡ beginsWith (fieldForms n) (drop at (now (text .entry))) ⌝ }
+{
+    let mut here = at;
+    let mut left = n;
+    while 0 < left {
+        let end = here + FIELD;
+        if !begins(b"\tx################", &text[here..end]) {
+            return false;
+        }
+        here = end;
+        left -= 1;
+    }
+    true
+}
