@@ -6,7 +6,7 @@ use mathlib.Core.Path.{_≡_, refl, sym, _∙_}
 use native.Mathlib.Omega.{arith}
 use lib.ListN.{length, getD, drop, drop-of-length-le}
 use lib.Seq.{drop-cons}
-use borrow.Author.Tests.{eq-eqb, ne-eqb, lt-ltb, le-ltb}
+use borrow.Author.Tests.{lt-ltb, le-ltb}
 use Rattle.numbers.specs.Buffers.{laidIf}
 use Rattle.numbers.proofs.Laws.{laid-if, laid-whole}
 use Rattle.pages.specs.Pages.{listing}
@@ -18,12 +18,14 @@ use Rattle.answers.specs.declared.answer.Refusal.the-variants.{Length, Kind, Ad
 use Rattle.answers.specs.declared.answer.Vector.{Vector}
 use Rattle.answers.specs.declared.answer.Vector.the-variants.{InvalidOpcode, Stack, Protection, Page, Control}
 use Rattle.processor.specs.State.{inRange}
-use Rattle.processor.specs.Layout.{fields, stateOf, wordsOf}
+use Rattle.processor.specs.Layout.{fields, stateOf, formed, wordsOf}
 use Rattle.processor.specs.declared.state.State.{State}
+use Rattle.processor.specs.declared.layout.Formed.the-variants.{Whole, NoState}
+use Rattle.processor.proofs.Layouts.{formed-whole, formed-none, good-whole, good-none}
 use Rattle.replay.specs.Run.{inputOf, afterPages, checkBy, check, run, replayed}
 use Rattle.replay.specs.declared.steps.Tested.{Tested}
 use Rattle.replay.specs.declared.steps.Tested.the-variants.{Passed, Failed}
-use Rattle.driftpocket.specs.Crossing.{reportLength, Crossing, goodState, unreported, byTests, ran, crossed}
+use Rattle.driftpocket.specs.Crossing.{reportLength, Crossing, unreported, byTests, ran, crossed}
 
 -- ---- the words of a state
 
@@ -42,8 +44,10 @@ unfolding stateOf elements
 same-words words ten = elements-rest words 0 10 (omega arith)
 
 -- a buffer of ten words holds the words of the state that is written there
-pub written-words : (state : List ℕ) (s : State) → length state ≡ fields → laidIf state 0 (wordsOf s) ≡ wordsOf s
-written-words state s ten = laid-if state 0 (wordsOf s) (omega arith) ∙ laid-whole (wordsOf s) state ten
+pub written-words : (state : List ℕ) (start s : State) → formed state ≡ Whole start → laidIf state 0 (wordsOf s) ≡ wordsOf s
+written-words state start s whole =
+    let ten = formed-whole state start whole .0 in
+    laid-if state 0 (wordsOf s) (omega arith) ∙ laid-whole (wordsOf s) state ten
 
 -- ---- the call, as the code has it: with no state, with a report that is too short, and run
 
@@ -62,23 +66,26 @@ module _ (state pages bytes words report : List ℕ) where
   abbrev whole-run : Crossing
   whole-run = ran report (replayed (inputOf (stateOf state) pages bytes words))
 
-  pub crossed-never : (length state ≡ fields → ⊥) → byTests (tests false) state bytes report (unreported state bytes report) ≡ crossed state pages bytes words report
-  unfolding crossed goodState checkBy
-  crossed-never other = rw (ne-eqb _ _ other, fails (listing pages (length bytes)) .1)
+  pub crossed-never : formed state ≡ NoState → byTests (tests false) state bytes report (unreported state bytes report) ≡ crossed state pages bytes words report
+  unfolding crossed checkBy
+  crossed-never none = rw (good-none state (formed-none state none), fails (listing pages (length bytes)) .1)
 
-  pub crossed-short : length state ≡ fields → length report < reportLength
-      → byTests (tests (inRange (stateOf state))) state bytes report (unreported state bytes report) ≡ crossed state pages bytes words report
-  unfolding crossed goodState
-  crossed-short ten short = rw (eq-eqb _ _ ten, lt-ltb _ _ short)
+  module _ (start : State) (whole : formed state ≡ Whole start) where
+    pub crossed-short : length report < reportLength
+        → byTests (tests (inRange start)) state bytes report (unreported state bytes report) ≡ crossed state pages bytes words report
+    unfolding crossed
+    crossed-short short = let (ten, same) = formed-whole state start whole in rw (same, good-whole state ten, lt-ltb _ _ short)
 
-  -- a run makes the tests itself, and leaves all as it was where they are not passed
-  pub crossed-run : length state ≡ fields → reportLength ≤ length report → whole-run ≡ crossed state pages bytes words report
-  unfolding crossed goodState run check
-  crossed-run ten room = rw (eq-eqb _ _ ten, le-ltb _ _ room) (go (tests (inRange (stateOf state))) refl)
-    where
-      go : (tested : Tested) → tests (inRange (stateOf state)) ≡ tested → whole-run ≡ byTests tested state bytes report whole-run
-      go Passed e = refl
-      go (Failed refusal) e = rw (e, same-words state ten)
+    -- a run makes the tests itself, and leaves all as it was where they are not passed
+    pub crossed-run : reportLength ≤ length report → ran report (replayed (inputOf start pages bytes words)) ≡ crossed state pages bytes words report
+    unfolding crossed run check
+    crossed-run room =
+        let (ten, same) = formed-whole state start whole in
+        rw (same, good-whole state ten, le-ltb _ _ room) (go ten (tests (inRange (stateOf state))) refl)
+      where
+        go : length state ≡ fields → (tested : Tested) → tests (inRange (stateOf state)) ≡ tested → whole-run ≡ byTests tested state bytes report whole-run
+        go ten Passed e = refl
+        go ten (Failed refusal) e = rw (e, same-words state ten)
 
 -- ---- vectors
 

@@ -1,16 +1,15 @@
 -- The layout of what crosses the C interface, and what a call leaves in every buffer. Assumes nothing.
 use Prim.Native.Nat.{ℕ, _+_}
-use mathlib.Core.Bool.{Bool, cond, _&&_}
+use mathlib.Core.Bool.{cond}
 use mathlib.Core.List.{List, [], _∷_}
 use lib.ListN.{length}
-use lib.Dec.{eqb, ltb}
+use lib.Dec.{ltb}
 use Rattle.numbers.specs.Buffers.{laidIf}
 use Rattle.answers.specs.Answer.{vectorNumber, refusalNumber, roomNumber, reportOf}
 use Rattle.answers.specs.declared.answer.Answer.{Answer}
 use Rattle.answers.specs.declared.answer.Answer.the-variants.{Completed, Refused, Faulted}
 use Rattle.answers.specs.declared.answer.Report.{Report}
-use Rattle.processor.specs.State.{inRange}
-use Rattle.processor.specs.Layout.{fields, stateOf, wordsOf}
+use Rattle.processor.specs.Layout.{stateOf, goodState, wordsOf}
 use Rattle.replay.specs.Run.{Run, inputOf, checkBy, replayed}
 use Rattle.replay.specs.declared.steps.Tested.{Tested}
 use Rattle.replay.specs.declared.steps.Tested.the-variants.{Passed, Failed}
@@ -49,10 +48,6 @@ ran report r = answered (wordsOf (r .state)) (r .bytes) report (r .count) (r .an
 -- refusal 8: nothing is run or written
 abbrev pub unreported : List ℕ → List ℕ → List ℕ → Crossing
 unreported state bytes report = record { number = roomNumber; state = state; bytes = bytes; report = report }
-
--- a state of ten words, each field in its range
-unfoldable pub goodState : List ℕ → Bool
-goodState state = eqb (length state) fields && inRange (stateOf state)
 
 -- refused by the tests before any step, or whatever comes after them
 abbrev pub byTests : Tested → List ℕ → List ℕ → List ℕ → Crossing → Crossing

@@ -9,7 +9,7 @@ ghost use Rattle.driftpocket.specs.Crossing.{reportWords, numberOf as nu
 use answers::NO_ROOM;
 use numbers::copy_words;
 use processor::Answer;
-use processor::FIELDS;
+use processor::Formed;
 use replay::Tested;
 
 // How many words a report has.
@@ -70,16 +70,14 @@ pub extern "C" fn driftpocket_run(
 ) -> u64
     ensures { λ r. ⌜ record { number = r; state = now (state .exit); bytes = now (bytes .exit); report = now (report .exit) } ≡ crossed (now (state .entry)) (now (pages .entry)) (now (bytes .entry)) (now (words .entry)) (now (report .entry)) ⌝ }
 {
-    if state.len() != FIELDS {
-        return refuse(
-            replay::check(pages, bytes.len(), false, words.len()),
-            report,
-        );
-    }
-    let start = processor::state_of(state);
+    let Formed::Whole(start) = processor::state_of(state) else {
+        let tested = replay::check(pages, bytes.len(), false, words.len());
+        return refuse(tested, report);
+    };
     if report.len() < REPORT {
         let good = start.in_range();
-        return refuse(replay::check(pages, bytes.len(), good, words.len()), report);
+        let tested = replay::check(pages, bytes.len(), good, words.len());
+        return refuse(tested, report);
     }
     let replayed = replay::run(start, pages, bytes, words);
     let answer = replayed.answer;
