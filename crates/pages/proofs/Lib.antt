@@ -2,6 +2,7 @@
 pub mod Laws
 pub mod Sums
 pub mod Steps
+mod Nearer
 mod KindTests
 mod Lists
 mod Moves

@@ -1,9 +1,13 @@
-// Addresses, and the lent pages: what a page list is, and what an address leads to.
+// Addresses, and the lent pages: what a page list is, what an address leads to, and the order of pages.
 mod address;
+mod order;
 mod pages;
 
 pub use address::Width;
 pub use address::canonical;
+pub use order::frame;
+pub use order::next_page;
+pub use order::page_of;
 pub use pages::Listing;
 pub use pages::PAGE_BYTES;
 pub use pages::PAGE_LIMIT;

@@ -2,6 +2,7 @@
 --
 -- How long and how large:
 --     hex-length, number-length, fields-length, line-length   what is written
+--     some-fields, few-fields, early-first                    how many numbers a line has, and where they begin
 --     value-below                                             16 digits hold a number of 64 bits
 -- A line of a kind at the front of a text:
 --     line-room                                               the text is as long as the line
@@ -10,6 +11,7 @@
 -- A line:
 --     values-count, values-below                              how many numbers it has, each of 64 bits
 --     is-line-line, values-line, line-values                  writing and reading are inverse
+--     line-put                                                one that is put lies in the text
 --     one-kind                                                it is of one kind only, by its name
 -- A text:
 --     joined-lines, lines-joined, lines-append                joining lines and splitting are inverse (LinesOnly: each is a line of some kind)
@@ -23,8 +25,10 @@ use lib.ListN.{length, take, drop, getD, length-append, length-drop, drop-of-len
 use lib.Seq.{length-take-le, take-take, drop-drop, take-at, drop-at, drop-append-seam}
 use lib.Dec.{eqb, leb}
 use borrow.Author.Tests.{eq-eqb, eqb-true, leb-true, not-true}
+use Rattle.numbers.specs.Buffers.{laid}
+use Rattle.numbers.proofs.Laws.{lies-inside}
 use Rattle.sheet.specs.Digits.{tab, lineFeed, digits, number, valueOf, Below}
-use Rattle.sheet.specs.Lines.{name, fieldCount, fields, line, joined, lines, anyDigit, numberForm, fieldForms, form, begins, numeral, first, width, isLine, valuesIn, values}
+use Rattle.sheet.specs.Lines.{name, fieldCount, fields, line, joined, lines, anyDigit, numberForm, fieldForms, form, begins, numeral, first, width, isLine, valuesIn, values, fitsLine, putLine}
 use Rattle.sheet.specs.declared.digits.Numeral.the-variants.{Number}
 use Rattle.sheet.specs.Reading.{next}
 use Rattle.sheet.specs.declared.line.Line.{Line}
@@ -117,6 +121,9 @@ all-sound kind =
 -- a line's numbers, and where the first begins, are small
 pub few-fields : (kind : Line) → fieldCount kind ≤ 64
 few-fields kind = all-sound kind .few
+
+pub some-fields : (kind : Line) → 1 ≤ fieldCount kind
+some-fields kind = all-sound kind .some
 
 pub early-first : (kind : Line) → first kind ≤ 65
 early-first kind = let short = all-sound kind .short in omega arith
@@ -265,6 +272,13 @@ kind-of-name Do = refl
 pub one-kind : (kind other : Line) (l : List ℕ) → isLine kind l ≡ true → isLine other l ≡ true → kind ≡ other
 one-kind kind other l h k =
     kind-of-name kind ∙ ap (λ (n : List ℕ). kindOf (spelled n)) (sym (line-named kind l h) ∙ line-named other l k) ∙ sym (kind-of-name other)
+
+-- ---- a line put into a text
+
+-- with its own count of numbers, where there is room
+pub line-put : (kind : Line) (vs out : List ℕ) (at : ℕ) → length vs ≡ fieldCount kind → at + width kind ≤ length out → putLine kind vs out at ≡ laid out at (line kind vs)
+unfolding putLine fitsLine
+line-put kind vs out at whole room = rw (whole, eq-eqb (fieldCount kind) (fieldCount kind) refl, lies-inside (length out) at (width kind) room)
 
 -- ---- texts
 

@@ -6,10 +6,10 @@ use mathlib.Core.Bool.{Bool, not, cond, _&&_}
 use mathlib.Core.List.{List, [], _∷_, _++_}
 use lib.ListN.{length, getD, take, drop}
 use lib.Dec.{eqb, leb}
-use Rattle.pages.specs.Pages.{pageOf}
+use Rattle.pages.specs.Pages.{pageOf, frameOf}
 use Rattle.numbers.specs.Numbers.{littleBytes}
 use Rattle.sheet.specs.Lines.{isLine, values, lines}
-use Rattle.sheet.specs.Sheets.{Page, Saved, frameOf, slots, version}
+use Rattle.sheet.specs.Sheets.{Page, Saved, slots, version}
 use Rattle.sheet.specs.declared.line.Line.{Line}
 use Rattle.sheet.specs.declared.line.Line.the-variants.{Sheet, State as StateLine, Page as PageLine, Word, Do}
 

@@ -6,7 +6,7 @@ use mathlib.Core.Bool.{cond}
 use mathlib.Core.List.{List, [], _∷_, _++_}
 use lib.ListN.{length, take, drop}
 use lib.Dec.{eqb, leb}
-use Rattle.pages.specs.Pages.{pageBytes, pageOf}
+use Rattle.pages.specs.Pages.{pageBytes, pageOf, frameOf}
 use Rattle.numbers.specs.Numbers.{numberAt}
 use Rattle.sheet.specs.Digits.{Below}
 use Rattle.sheet.specs.Lines.{fieldCount, line, joined}
@@ -25,10 +25,6 @@ pub record Saved : Type 0 where
   pub state : List ℕ
   pub pages : List Page
   pub words : List ℕ
-
--- the number of the page, counted from address 0: pages are ordered by it, whatever their kinds
-unfoldable pub frameOf : ℕ → ℕ
-frameOf entry = entry / pageBytes
 
 -- pages strictly ascending by address, none below the frame `least`
 unfoldable pub Ascending : ℕ → List Page → Type 0
@@ -57,7 +53,10 @@ pub record Sheeted (s : Saved) : Type 0 where
 
 -- ---- its lines
 
--- one line for a nonzero value, none for 0
+-- how many lines a value takes, and its line: none for 0
+abbrev pub lineCount : ℕ → ℕ
+lineCount value = cond (eqb value 0) 0 1
+
 abbrev pub wordLine : ℕ → ℕ → List (List ℕ)
 wordLine address value = cond (eqb value 0) [] (line Word (address ∷ value ∷ []) ∷ [])
 

@@ -5,7 +5,8 @@ use mathlib.Core.Logic.{_⊎_, inl, inr}
 use mathlib.Core.Path.{_≡_, refl, sym, ap, ap₂}
 use native.Mathlib.Omega.{arith}
 use Rattle.memory.specs.Extends.{HoldsPages}
-use Rattle.sheet.specs.Sheets.{Page, frameOf, Ascending, pagesOf, ascended, savedOf, text}
+use Rattle.sheet.specs.Sheets.{Page, Ascending, pagesOf, ascended, savedOf, text}
+use Rattle.pages.specs.Pages.{frameOf}
 use Rattle.sheet_claims.specs.EqualMeaning.{EqualText, EqualWrites}
 use Rattle.replay.specs.Run.{checkBy}
 use Rattle.sheet_write.specs.Writes.{writes}

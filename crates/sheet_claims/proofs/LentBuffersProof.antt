@@ -15,7 +15,7 @@ use Rattle.processor.specs.Layout.{stateOf}
 use Rattle.replay.specs.Run.{checkBy}
 use Rattle.replay.specs.declared.steps.Tested.{Tested}
 use Rattle.replay.specs.declared.steps.Tested.the-variants.{Passed, Failed}
-use Rattle.sheet.specs.Buffers.{laid}
+use Rattle.numbers.specs.Buffers.{laid}
 use Rattle.sheet.specs.Sheets.{Saved, savedOf, entriesOf, bytesOf, text}
 use Rattle.sheet.specs.Reading.{Parsed, sheet, noSheet, parsed}
 use Rattle.sheet.proofs.DigitLaws.{both}

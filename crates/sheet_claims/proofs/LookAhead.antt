@@ -8,7 +8,8 @@ use lib.ListN.{length, take, drop, length-append, length-drop}
 use lib.Dec.{leb}
 use Rattle.pages.specs.Pages.{pageOf}
 use Rattle.sheet.specs.Lines.{isLine}
-use Rattle.sheet.specs.Sheets.{frameOf, slots}
+use Rattle.sheet.specs.Sheets.{slots}
+use Rattle.pages.specs.Pages.{frameOf}
 use Rattle.sheet.specs.Reading.{value, next, isWord, pageCount, numbers, pastSlot, pastSlots, pastPages, doCount, stages}
 use Rattle.sheet.specs.declared.line.Line.the-variants.{Page as PageLine, Do}
 

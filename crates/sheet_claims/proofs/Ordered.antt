@@ -11,7 +11,8 @@ use lib.Dec.{leb}
 use borrow.Author.Tests.{le-leb, leb-true, leb-false}
 use Rattle.pages.specs.Pages.{anyEntry, repeated}
 use Rattle.pages.proofs.Laws.{none-passes, each-fails, Apart, once-apart, apart-once}
-use Rattle.sheet.specs.Sheets.{Page, frameOf, Ascending, insert, ascended, entriesOf}
+use Rattle.sheet.specs.Sheets.{Page, Ascending, insert, ascended, entriesOf}
+use Rattle.pages.specs.Pages.{frameOf}
 
 -- ---- every page of a list
 

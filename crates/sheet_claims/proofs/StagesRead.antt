@@ -9,7 +9,8 @@ use lib.Seq.{take-append-seam, drop-append-seam, take-length, drop-length, lengt
 use borrow.Author.Tests.{le-leb}
 use Rattle.sheet.specs.Digits.{Below}
 use Rattle.sheet.specs.Lines.{line, isLine}
-use Rattle.sheet.specs.Sheets.{Page, Saved, Sheeted, frameOf, Ascending, WholePages, pagesWords, pageLines, doLines, entriesOf}
+use Rattle.sheet.specs.Sheets.{Page, Saved, Sheeted, Ascending, WholePages, pagesWords, pageLines, doLines, entriesOf}
+use Rattle.pages.specs.Pages.{frameOf}
 use Rattle.sheet.specs.Reading.{next, isWord, pageCount, numbers, doCount, stages}
 use Rattle.sheet.specs.declared.line.Line.the-variants.{Page as PageLine, Word, Do}
 use Rattle.sheet.proofs.LineLaws.{is-line-line, values-line}

@@ -11,7 +11,8 @@ use borrow.Author.Tests.{leb-true}
 use Rattle.pages.specs.Pages.{pageOf}
 use Rattle.sheet.specs.Digits.{Below}
 use Rattle.sheet.specs.Lines.{isLine, values}
-use Rattle.sheet.specs.Sheets.{Sheeted, frameOf, Ascending, slots, pagesWords, pageLines, doLines}
+use Rattle.sheet.specs.Sheets.{Sheeted, Ascending, slots, pagesWords, pageLines, doLines}
+use Rattle.pages.specs.Pages.{frameOf}
 use Rattle.sheet.specs.Reading.{value, pageCount, numbers, pastSlots, pagesIn, pastPages, doCount, stages}
 use Rattle.sheet.specs.declared.line.Line.{Line}
 use Rattle.sheet.specs.declared.line.Line.the-variants.{Page as PageLine, Do}

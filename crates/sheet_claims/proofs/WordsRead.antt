@@ -11,7 +11,8 @@ use Rattle.pages.specs.Pages.{pageOf}
 use Rattle.pages.proofs.Laws.{page-and-offset, page-end}
 use Rattle.sheet.specs.Digits.{Below}
 use Rattle.sheet.specs.Lines.{line}
-use Rattle.sheet.specs.Sheets.{Page, frameOf, Ascending, WholePages, little, wordLine, wordLines, slots, pagesWords, entriesOf}
+use Rattle.sheet.specs.Sheets.{Page, Ascending, WholePages, little, wordLine, wordLines, slots, pagesWords, entriesOf}
+use Rattle.pages.specs.Pages.{frameOf}
 use Rattle.sheet.specs.Reading.{next, isWord, slotValue, pastSlot, slotBytes, pastSlots, pagesIn, pastPages}
 use Rattle.sheet.specs.declared.line.Line.the-variants.{Word}
 use Rattle.sheet_claims.proofs.Bytes.{below-drop, little-below, bytes-of-little}

@@ -1,92 +1,83 @@
 -- The pages of a sheet, entry by entry: their word lines, their bytes and how many there are. Assumes nothing.
-use Prim.Native.Nat.{ℕ, zero, suc, _+_, _-_, _*_, _/_, _<_, _≤_}
+use Prim.Native.Nat.{ℕ, zero, suc, _+_, _-_, _*_, _<_, _≤_}
 use mathlib.Core.Path.{_≡_, refl, sym, ap, _∙_}
 use mathlib.Core.List.{List, [], _∷_, _++_}
 use native.Mathlib.Omega.{arith}
 use lib.ListN.{length, take, drop, length-append}
 use lib.Seq.{drop-drop}
 use Rattle.pages.specs.Pages.{pageBytes, pageOf}
-use Rattle.sheet.specs.Digits.{digits, valueOf}
-use Rattle.sheet.specs.Lines.{lines, values, valuesIn}
+use Rattle.numbers.proofs.Laws.{little-length}
+use Rattle.sheet.specs.Lines.{lines, width, values, valuesIn}
 use Rattle.sheet.specs.Sheets.{slots, entriesOf, bytesOf}
-use Rattle.sheet.specs.Reading.{value, littleBytes, pastSlot, slotBytes, pastSlots, pagesIn}
+use Rattle.sheet.specs.Reading.{value, pastSlot, slotBytes, pastSlots, pagesIn}
 use Rattle.sheet.specs.declared.line.Line.the-variants.{Page, Word}
-use Rattle.sheet_read.specs.Scan.{Lead, slotCount, wordCount, entriesIn}
-use Rattle.sheet_read.proofs.Leads.{led, lead-end, lead-past, numbers-turn, numbers-none, numbers-length}
-use Rattle.sheet_read.proofs.Places.{value-at}
+use Rattle.sheet_read.specs.Scan.{Lead, numbersIn, slotCount, wordCount}
+use Rattle.sheet_read.specs.declared.stage.Stage.{Stage}
+use Rattle.sheet_read.proofs.Leads.{lead-end, lead-past, numbers-turn, numbers-none}
 use Rattle.sheet_read.proofs.Stages.{slots-past, lead-slots}
 
 -- ---- entries
+
+-- lines from a place on
+abbrev pub stage : ℕ → ℕ → Stage
+stage at count = record { at = at; count = count }
 
 one-value : (l : List ℕ) → values Page l ≡ value Page 0 l ∷ []
 unfolding values valuesIn
 one-value l = refl
 
-pub entries-turn : (left : ℕ) (t : List ℕ) (at : ℕ) → 0 < left → Lead Page left (lines (drop at t))
-    → entriesIn left (drop at t) ≡ valueOf (take digits (drop (at + 6) t)) ∷ entriesIn (left - 1) (drop (at + 23) t)
-unfolding entriesIn
-entries-turn left t at more h =
-    rw (
-      numbers-turn Page left (drop at t) more h,
-      one-value,
-      value-at Page t at (led Page left (drop at t) more h .front) 0 (omega arith),
-      drop-drop 23 at t,
-    )
-
-pub entries-length : (n : ℕ) (u : List ℕ) → Lead Page n (lines u) → length (entriesIn n u) ≡ n
-unfolding entriesIn
-entries-length n u h = let long = numbers-length Page n u h in omega arith
+entries-turn : (left : ℕ) (t : List ℕ) (at : ℕ) → 0 < left → Lead Page left (lines (drop at t))
+    → numbersIn Page (stage at left) t ≡ value Page 0 (take (width Page) (drop at t)) ∷ numbersIn Page (stage (at + width Page) (left - 1)) t
+unfolding numbersIn
+entries-turn left t at more h = rw (numbers-turn Page left (drop at t) more h, one-value, drop-drop (width Page) at t)
 
 -- ---- a page and the others
 
 module _ (t : List ℕ) (at entry n : ℕ) (count-is : n ≡ slotCount (pageOf entry) slots (lines (drop at t))) where
-  pub page-end : at ≤ length t → at + 41 * n ≤ length t
+  pub page-end : at ≤ length t → at + width Word * n ≤ length t
   page-end inside = rw count-is (lead-end Word _ t at (lead-slots (pageOf entry) slots (lines (drop at t))) inside)
 
-  page-rest : pastSlots (pageOf entry) slots (lines (drop at t)) ≡ lines (drop (at + 41 * n) t)
+  page-rest : pastSlots (pageOf entry) slots (lines (drop at t)) ≡ lines (drop (at + width Word * n) t)
   page-rest = rw count-is (slots-past (pageOf entry) slots (lines (drop at t)) ∙ sym (lead-past Word _ t at (lead-slots (pageOf entry) slots (lines (drop at t)))))
 
-  pub words-turn : (entries : List ℕ) → wordCount (entry ∷ entries) (lines (drop at t)) ≡ n + wordCount entries (lines (drop (at + 41 * n) t))
+  words-turn : (entries : List ℕ) → wordCount (entry ∷ entries) (lines (drop at t)) ≡ n + wordCount entries (lines (drop (at + width Word * n) t))
   unfolding wordCount
   words-turn entries = rw (page-rest, count-is)
 
-  pub pages-turn : (entries : List ℕ)
-      → bytesOf (pagesIn (entry ∷ entries) (lines (drop at t))) ≡ slotBytes (pageOf entry) slots (lines (drop at t)) ++ bytesOf (pagesIn entries (lines (drop (at + 41 * n) t)))
+  pages-turn : (entries : List ℕ)
+      → bytesOf (pagesIn (entry ∷ entries) (lines (drop at t))) ≡ slotBytes (pageOf entry) slots (lines (drop at t)) ++ bytesOf (pagesIn entries (lines (drop (at + width Word * n) t)))
   unfolding pagesIn bytesOf
   pages-turn entries = rw page-rest
 
 -- the same where the entry stands on a page line, the first of those that are left
 module _ (t : List ℕ) (left page here entry n : ℕ) (more : 0 < left) (stand : Lead Page left (lines (drop page t)))
-    (entry-is : entry ≡ valueOf (take digits (drop (page + 6) t))) (count-is : n ≡ slotCount (pageOf entry) slots (lines (drop here t))) where
-  entries-are : entriesIn left (drop page t) ≡ entry ∷ entriesIn (left - 1) (drop (page + 23) t)
+    (entry-is : entry ≡ value Page 0 (take (width Page) (drop page t))) (count-is : n ≡ slotCount (pageOf entry) slots (lines (drop here t))) where
+  entries-are : numbersIn Page (stage page left) t ≡ entry ∷ numbersIn Page (stage (page + width Page) (left - 1)) t
   entries-are = rw entry-is (entries-turn left t page more stand)
 
-  pub words-next : wordCount (entriesIn left (drop page t)) (lines (drop here t)) ≡ n + wordCount (entriesIn (left - 1) (drop (page + 23) t)) (lines (drop (here + 41 * n) t))
-  words-next = rw entries-are (words-turn t here entry n count-is (entriesIn (left - 1) (drop (page + 23) t)))
+  pub words-next : wordCount (numbersIn Page (stage page left) t) (lines (drop here t))
+      ≡ n + wordCount (numbersIn Page (stage (page + width Page) (left - 1)) t) (lines (drop (here + width Word * n) t))
+  words-next = rw entries-are (words-turn t here entry n count-is (numbersIn Page (stage (page + width Page) (left - 1)) t))
 
-  pub pages-next : bytesOf (pagesIn (entriesIn left (drop page t)) (lines (drop here t)))
-      ≡ slotBytes (pageOf entry) slots (lines (drop here t)) ++ bytesOf (pagesIn (entriesIn (left - 1) (drop (page + 23) t)) (lines (drop (here + 41 * n) t)))
-  pages-next = rw entries-are (pages-turn t here entry n count-is (entriesIn (left - 1) (drop (page + 23) t)))
+  pub pages-next : bytesOf (pagesIn (numbersIn Page (stage page left) t) (lines (drop here t)))
+      ≡ slotBytes (pageOf entry) slots (lines (drop here t))
+      ++ bytesOf (pagesIn (numbersIn Page (stage (page + width Page) (left - 1)) t) (lines (drop (here + width Word * n) t)))
+  pages-next = rw entries-are (pages-turn t here entry n count-is (numbersIn Page (stage (page + width Page) (left - 1)) t))
 
 -- no page
-pub entries-none : (left : ℕ) (u : List ℕ) → left ≤ 0 → entriesIn left u ≡ []
-unfolding entriesIn
-entries-none left u none = numbers-none Page left (lines u) none
+entries-none : (at left : ℕ) (t : List ℕ) → left ≤ 0 → numbersIn Page (stage at left) t ≡ []
+unfolding numbersIn
+entries-none at left t none = numbers-none Page left (lines (drop at t)) none
 
-pub words-none : (left : ℕ) (u : List ℕ) (ls : List (List ℕ)) → left ≤ 0 → wordCount (entriesIn left u) ls ≡ 0
+pub words-none : (at left : ℕ) (t : List ℕ) (ls : List (List ℕ)) → left ≤ 0 → wordCount (numbersIn Page (stage at left) t) ls ≡ 0
 unfolding wordCount
-words-none left u ls none = rw (entries-none left u none)
+words-none at left t ls none = rw (entries-none at left t none)
 
-pub pages-none : (left : ℕ) (u : List ℕ) (ls : List (List ℕ)) → left ≤ 0 → bytesOf (pagesIn (entriesIn left u) ls) ≡ []
+pub pages-none : (at left : ℕ) (t : List ℕ) (ls : List (List ℕ)) → left ≤ 0 → bytesOf (pagesIn (numbersIn Page (stage at left) t) ls) ≡ []
 unfolding pagesIn bytesOf
-pages-none left u ls none = rw (entries-none left u none)
+pages-none at left t ls none = rw (entries-none at left t none)
 
 -- ---- how many
-
-pub little-length : (n v : ℕ) → length (littleBytes n v) ≡ n
-unfolding littleBytes
-little-length zero v = refl
-little-length (suc n) v = ap suc (little-length n (v / 256))
 
 pub slots-length : (address n : ℕ) (ls : List (List ℕ)) → length (slotBytes address n ls) ≡ 8 * n
 unfolding slotBytes

@@ -1,6 +1,6 @@
 -- The turns of the loops that count lines: what each count of the definitions is at a place of a text, in the terms of the code; and that
 -- the lines so counted are of their kind. Assumes nothing.
-use Prim.Native.Nat.{ℕ, zero, suc, _+_, _-_, _*_, _/_, _<_, _≤_}
+use Prim.Native.Nat.{ℕ, zero, suc, _+_, _-_, _*_, _<_, _≤_}
 use mathlib.Core.Path.{_≡_, refl, sym, ap, _∙_}
 use mathlib.Core.Bool.{Bool, true, false, not, cond, _&&_, and-true}
 use mathlib.Core.List.{List, [], _∷_, _++_}
@@ -11,18 +11,18 @@ use lib.ListN.{length, take, drop}
 use lib.Seq.{drop-drop}
 use lib.Dec.{eqb, leb}
 use borrow.Author.Tests.{not-true, eqb-true, eq-eqb, ne-eqb, le-leb, lt-leb}
-use Rattle.pages.specs.Pages.{pageBytes, pageOf}
-use Rattle.sheet.specs.Digits.{digits, valueOf}
-use Rattle.sheet.specs.Lines.{lines, begins, form, isLine}
-use Rattle.sheet.specs.Sheets.{frameOf, slots}
-use Rattle.sheet.specs.Reading.{next, value, pageCount, isWord, slotValue, pastSlot, slotBytes, pastSlots, pastPages, littleBytes, doCount}
+use Rattle.pages.specs.Pages.{pageOf, frameOf}
+use Rattle.numbers.specs.Numbers.{littleBytes}
+use Rattle.sheet.specs.Lines.{lines, begins, form, width, isLine}
+use Rattle.sheet.specs.Sheets.{slots, lineCount}
+use Rattle.sheet.specs.Reading.{next, value, plainCount, pageCount, isWord, slotValue, pastSlot, slotBytes, pastSlots, pastPages}
 use Rattle.sheet.specs.declared.line.Line.{Line}
-use Rattle.sheet.specs.declared.line.Line.the-variants.{Page, Word, Do}
+use Rattle.sheet.specs.declared.line.Line.the-variants.{Page, Word}
 use Rattle.sheet.proofs.DigitLaws.{both}
 use Rattle.sheet.proofs.LineLaws.{next-line}
-use Rattle.sheet_read.specs.Scan.{Lead, lineCount, slotCount, wordCount}
+use Rattle.sheet_read.specs.Scan.{Lead, slotCount, wordCount}
 use Rattle.sheet_read.proofs.Leads.{lead-one, lead-none, lead-more, lead-end, lead-past}
-use Rattle.sheet_read.proofs.Places.{lines-at, is-line, value-at}
+use Rattle.sheet_read.proofs.Places.{lines-at, is-line}
 
 -- ---- a count so far and a count from here on
 
@@ -54,17 +54,15 @@ page-other least (l ∷ ls) h = rw h
 pub page-end : (t : List ℕ) (at least : ℕ) → begins (form Page) (drop at t) ≡ false → pageCount least (lines (drop at t)) ≡ 0
 page-end t at least other = page-other least (lines (drop at t)) (next-line Page (drop at t) ∙ other)
 
-module _ (t : List ℕ) (at least entry : ℕ) (begun : begins (form Page) (drop at t) ≡ true) (entry-is : entry ≡ valueOf (take digits (drop (at + 6) t))) where
-  page-here : pageCount least (lines (drop at t)) ≡ cond (leb least (frameOf entry)) (suc (pageCount (suc (frameOf entry)) (lines (drop (at + 23) t)))) 0
+module _ (t : List ℕ) (at least entry : ℕ) (begun : begins (form Page) (drop at t) ≡ true) (entry-is : entry ≡ value Page 0 (take (width Page) (drop at t))) where
+  page-here : pageCount least (lines (drop at t)) ≡ cond (leb least (frameOf entry)) (suc (pageCount (suc (frameOf entry)) (lines (drop (at + width Page) t)))) 0
   page-here =
-      rw (lines-at Page t at begun, page-cons least (take 23 (drop at t)) (lines (drop (at + 23) t)) (is-line Page t at begun), value-at Page t at begun 0 (omega arith), ← entry-is)
+      rw (lines-at Page t at begun, page-cons least (take (width Page) (drop at t)) (lines (drop (at + width Page) t)) (is-line Page t at begun), ← entry-is)
 
-  pub page-turn : least ≤ entry / pageBytes → pageCount least (lines (drop at t)) ≡ 1 + pageCount (entry / pageBytes + 1) (lines (drop (at + 23) t))
-  unfolding frameOf
+  pub page-turn : least ≤ frameOf entry → pageCount least (lines (drop at t)) ≡ 1 + pageCount (frameOf entry + 1) (lines (drop (at + width Page) t))
   page-turn above = rw (page-here, le-leb _ _ above, add-one, one-add)
 
-  pub page-low : entry / pageBytes < least → pageCount least (lines (drop at t)) ≡ 0
-  unfolding frameOf
+  pub page-low : frameOf entry < least → pageCount least (lines (drop at t)) ≡ 0
   page-low low = rw (page-here, lt-leb _ _ low)
 
 pub lead-pages : (least : ℕ) (ls : List (List ℕ)) → Lead Page (pageCount least ls) ls
@@ -74,28 +72,29 @@ lead-pages least (l ∷ ls) =
     let next : ℕ = suc (frameOf (value Page 0 l)) in
     lead-if Page l ls (pageCount next ls) (isLine Page l) refl (leb least (frameOf (value Page 0 l))) (lead-pages next ls)
 
--- ---- instructions
+-- ---- plain lines
 
-do-cons : (l : List ℕ) (ls : List (List ℕ)) → isLine Do l ≡ true → doCount (l ∷ ls) ≡ suc (doCount ls)
-unfolding doCount
-do-cons l ls h = rw h
+module _ (kind : Line) where
+  plain-cons : (l : List ℕ) (ls : List (List ℕ)) → isLine kind l ≡ true → plainCount kind (l ∷ ls) ≡ suc (plainCount kind ls)
+  unfolding plainCount
+  plain-cons l ls h = rw h
 
-do-other : (ls : List (List ℕ)) → isLine Do (next ls) ≡ false → doCount ls ≡ 0
-unfolding doCount
-do-other [] h = refl
-do-other (l ∷ ls) h = rw h
+  plain-other : (ls : List (List ℕ)) → isLine kind (next ls) ≡ false → plainCount kind ls ≡ 0
+  unfolding plainCount
+  plain-other [] h = refl
+  plain-other (l ∷ ls) h = rw h
 
-module _ (t : List ℕ) (at : ℕ) where
-  pub do-turn : begins (form Do) (drop at t) ≡ true → doCount (lines (drop at t)) ≡ 1 + doCount (lines (drop (at + 75) t))
-  do-turn begun = rw (lines-at Do t at begun, one-add) (do-cons (take 75 (drop at t)) (lines (drop (at + 75) t)) (is-line Do t at begun))
+  module _ (t : List ℕ) (at : ℕ) where
+    pub plain-turn : begins (form kind) (drop at t) ≡ true → plainCount kind (lines (drop at t)) ≡ 1 + plainCount kind (lines (drop (at + width kind) t))
+    plain-turn begun = rw (lines-at kind t at begun, one-add) (plain-cons (take (width kind) (drop at t)) (lines (drop (at + width kind) t)) (is-line kind t at begun))
 
-  pub do-end : begins (form Do) (drop at t) ≡ false → doCount (lines (drop at t)) ≡ 0
-  do-end other = do-other (lines (drop at t)) (next-line Do (drop at t) ∙ other)
+    pub plain-end : begins (form kind) (drop at t) ≡ false → plainCount kind (lines (drop at t)) ≡ 0
+    plain-end other = plain-other (lines (drop at t)) (next-line kind (drop at t) ∙ other)
 
-pub lead-steps : (ls : List (List ℕ)) → Lead Do (doCount ls) ls
-unfolding doCount Lead
-lead-steps [] = tt
-lead-steps (l ∷ ls) = rw and-true at (lead-if Do l ls (doCount ls) (isLine Do l) refl true (lead-steps ls))
+  pub lead-plain : (ls : List (List ℕ)) → Lead kind (plainCount kind ls) ls
+  unfolding plainCount Lead
+  lead-plain [] = tt
+  lead-plain (l ∷ ls) = rw and-true at (lead-if kind l ls (plainCount kind ls) (isLine kind l) refl true (lead-plain ls))
 
 -- ---- words
 
@@ -107,20 +106,20 @@ or-zero v = go (eqb v 0) refl
     go false e = refl
 
 -- the next line, where it stands at a place
-is-word-at : (t : List ℕ) (at address : ℕ) → begins (form Word) (drop at t) ≡ true
-    → isWord address (next (lines (drop at t))) ≡ (eqb (valueOf (take digits (drop (at + 6) t))) address && not (eqb (valueOf (take digits (drop (at + 24) t))) 0))
-unfolding isWord
-is-word-at t at address begun = rw (lines-at Word t at begun, is-line Word t at begun, value-at Word t at begun 0 (omega arith), value-at Word t at begun 1 (omega arith))
-
 module _ (t : List ℕ) (at address : ℕ) where
-  pub slot-here : begins (form Word) (drop at t) ≡ true → valueOf (take digits (drop (at + 6) t)) ≡ address → slotValue address (lines (drop at t)) ≡ valueOf (take digits (drop (at + 24) t))
-  unfolding slotValue
-  slot-here begun same =
-      rw (is-word-at t at address begun, eq-eqb _ _ same, lines-at Word t at begun, value-at Word t at begun 1 (omega arith)) (or-zero (valueOf (take digits (drop (at + 24) t))))
+  word-at : begins (form Word) (drop at t) ≡ true
+      → isWord address (next (lines (drop at t))) ≡ (eqb (value Word 0 (take (width Word) (drop at t))) address && not (eqb (value Word 1 (take (width Word) (drop at t))) 0))
+  unfolding isWord
+  word-at begun = rw (lines-at Word t at begun, is-line Word t at begun)
 
-  pub slot-there : begins (form Word) (drop at t) ≡ true → (valueOf (take digits (drop (at + 6) t)) ≡ address → ⊥) → slotValue address (lines (drop at t)) ≡ 0
+  pub slot-here : begins (form Word) (drop at t) ≡ true → value Word 0 (take (width Word) (drop at t)) ≡ address
+      → slotValue address (lines (drop at t)) ≡ value Word 1 (take (width Word) (drop at t))
   unfolding slotValue
-  slot-there begun other = rw (is-word-at t at address begun, ne-eqb _ _ other)
+  slot-here begun same = rw (word-at begun, eq-eqb _ _ same, lines-at Word t at begun) (or-zero (value Word 1 (take (width Word) (drop at t))))
+
+  pub slot-there : begins (form Word) (drop at t) ≡ true → (value Word 0 (take (width Word) (drop at t)) ≡ address → ⊥) → slotValue address (lines (drop at t)) ≡ 0
+  unfolding slotValue
+  slot-there begun other = rw (word-at begun, ne-eqb _ _ other)
 
   pub slot-none : begins (form Word) (drop at t) ≡ false → slotValue address (lines (drop at t)) ≡ 0
   unfolding slotValue isWord
@@ -209,20 +208,20 @@ module _ (t : List ℕ) (at base slot v k : ℕ) (value-is : v ≡ slotValue (ba
   lines-are : k ≡ lineCount (slotValue (base + 8 * slot) (lines (drop at t)))
   lines-are = count-is ∙ ap lineCount value-is
 
-  pub slot-end : at ≤ length t → at + 41 * k ≤ length t
+  pub slot-end : at ≤ length t → at + width Word * k ≤ length t
   slot-end inside = rw lines-are (lead-end Word _ t at (lead-slot (base + 8 * slot) (lines (drop at t))) inside)
 
-  slot-rest : pastSlot (base + 8 * slot) (lines (drop at t)) ≡ lines (drop (at + 41 * k) t)
+  slot-rest : pastSlot (base + 8 * slot) (lines (drop at t)) ≡ lines (drop (at + width Word * k) t)
   slot-rest = rw lines-are (slot-past (base + 8 * slot) (lines (drop at t)) ∙ sym (lead-past Word _ t at (lead-slot (base + 8 * slot) (lines (drop at t)))))
 
   next-slot : base + 8 * slot + 8 ≡ base + 8 * (slot + 1)
   next-slot = omega arith
 
-  pub count-turn : slot < slots → slotCount (base + 8 * slot) (slots - slot) (lines (drop at t)) ≡ k + slotCount (base + 8 * (slot + 1)) (slots - (slot + 1)) (lines (drop (at + 41 * k) t))
+  pub count-turn : slot < slots → slotCount (base + 8 * slot) (slots - slot) (lines (drop at t)) ≡ k + slotCount (base + 8 * (slot + 1)) (slots - (slot + 1)) (lines (drop (at + width Word * k) t))
   count-turn more = rw (one-less slot more, count-suc, next-slot, slot-rest, lines-are)
 
   pub bytes-turn : slot < slots
-      → slotBytes (base + 8 * slot) (slots - slot) (lines (drop at t)) ≡ littleBytes 8 v ++ slotBytes (base + 8 * (slot + 1)) (slots - (slot + 1)) (lines (drop (at + 41 * k) t))
+      → slotBytes (base + 8 * slot) (slots - slot) (lines (drop at t)) ≡ littleBytes 8 v ++ slotBytes (base + 8 * (slot + 1)) (slots - (slot + 1)) (lines (drop (at + width Word * k) t))
   bytes-turn more = rw (one-less slot more, bytes-suc, next-slot, slot-rest, value-is)
 
 -- all values

@@ -11,7 +11,7 @@ use Rattle.replay.specs.declared.steps.Tested.{Tested}
 use Rattle.replay.specs.declared.steps.Tested.the-variants.{Passed, Failed}
 use Rattle.sheet.specs.Sheets.{Saved, entriesOf, bytesOf}
 use Rattle.sheet.specs.Reading.{Parsed, sheet, noSheet, parsed}
-use Rattle.sheet.specs.Buffers.{laid}
+use Rattle.numbers.specs.Buffers.{laid}
 use Rattle.sheet_read.specs.declared.buffers.Sizes.{Sizes}
 use Rattle.sheet_read.specs.declared.buffers.Reading.{Reading}
 use Rattle.sheet_read.specs.declared.buffers.Reading.the-variants.{Done, NoSheet, Refused, TooLong}

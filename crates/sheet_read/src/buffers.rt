@@ -1,30 +1,27 @@
 // A sheet into lent buffers: the whole text is judged before anything is written.
 ghost use mathlib.Core.Path.{_≡_};
 ghost use Prim.Native.Nat.{_*_, _≤_};
-ghost use lib.ListN.{length, take, drop};
+ghost use lib.ListN.{length};
 ghost use Rattle.pages.specs.Pages.{pageBytes, pageLimit};
 ghost use Rattle.processor.specs.State.{inRange};
-ghost use Rattle.processor.specs.Layout.{stateOf};
+ghost use Rattle.instructions.specs.Instruction.{instructionWords};
+ghost use Rattle.processor.specs.Layout.{fields, stateOf};
 ghost use Rattle.replay.specs.declared.steps.Tested.the-variants.{Passed};
-ghost use Rattle.sheet.specs.Lines.{lines};
-ghost use Rattle.sheet.specs.Reading.{numbers};
 ghost use Rattle.sheet.specs.declared.line.Line.the-variants.{State as StateLine};
-ghost use Rattle.sheet_read.specs.Scan.{Lead, stateAt, savedAt, roomFor, Shaped};
+ghost use Rattle.sheet_read.specs.Scan.{numbersIn, savedAt, roomFor, Shaped};
 ghost use Rattle.sheet_read.specs.Reads.{tested, filled, byTest, reads};
 use crate::fill::fill_lines;
 use crate::fill::fill_pages;
-use crate::scan::BODY;
-use crate::scan::PAGE_LINE;
-use crate::scan::STATE;
 use crate::scan::Scan;
 use crate::scan::Shape;
-use crate::scan::WORD_LINE;
 use crate::scan::scan_sheet;
+use instructions::INSTRUCTION_WORDS;
 use memory::PAGE_BYTES;
 use memory::PAGE_LIMIT;
+use processor::FIELDS;
 use processor::Refusal;
+use processor::good_state;
 use replay::Tested;
-use sheet::FIELDS;
 use sheet::Line;
 
 // How many pages, bytes and words a run has.
@@ -47,13 +44,13 @@ pub enum Reading {
 }
 
 // Whether the state is in range.
-fn good_state(text: &[u8]) -> bool
-    requires { ⌜ Lead StateLine 1 (lines (drop stateAt (now text))) ⌝ }
-    ensures { λ r. ⌜ r ≡ inRange (stateOf (numbers StateLine (take 1 (lines (drop stateAt (now (text .entry))))))) ⌝ }
+fn is_good(text: &[u8], shape: Shape) -> bool
+    requires { ⌜ Shaped (now text) shape ⌝ }
+    ensures { λ r. ⌜ r ≡ inRange (stateOf (numbersIn StateLine (shape .state) (now (text .entry)))) ⌝ }
 {
     let mut fields = [0u64; FIELDS];
-    fill_lines(Line::State, text, STATE, 1, &mut fields);
-    replay::state_of(&fields).in_range()
+    fill_lines(Line::State, text, shape.state, &mut fields);
+    good_state(&fields)
 }
 
 // The tests before a run: refusals 1, 2, 3, 4, 5 and 7. More pages than may be listed are not copied, and refused at once.
@@ -61,14 +58,14 @@ fn judge(text: &[u8], shape: Shape) -> Tested
     requires { ⌜ Shaped (now text) shape ⌝ }
     ensures { λ r. ⌜ r ≡ tested (savedAt (now (text .entry)) shape) ⌝ }
 {
-    let pages = shape.pages;
+    let pages = shape.pages.count;
     if PAGE_LIMIT < pages {
         return Tested::Failed(Refusal::Length);
     }
-    let good = good_state(text);
+    let good = is_good(text, shape);
     let mut entries = [0u64; PAGE_LIMIT];
-    fill_lines(Line::Page, text, BODY, pages, &mut entries);
-    replay::check(&entries[..pages], PAGE_BYTES * pages, good, 4 * shape.steps)
+    fill_lines(Line::Page, text, shape.pages, &mut entries);
+    replay::check(&entries[..pages], PAGE_BYTES * pages, good, INSTRUCTION_WORDS * shape.steps.count)
 }
 
 // Whether every part fits its buffer, of these lengths.
@@ -96,14 +93,13 @@ fn fill_all(
     bytes: &mut [u8],
     words: &mut [u64],
 )
-    requires { ⌜ Shaped (now text) shape × (10 ≤ length (now state)) × (shape .pages ≤ length (now pages)) × (pageBytes * shape .pages ≤ length (now bytes)) × (4 * shape .steps ≤ length (now words)) ⌝ }
+    requires { ⌜ Shaped (now text) shape × (fields ≤ length (now state)) × (shape .pages .count ≤ length (now pages)) × (pageBytes * shape .pages .count ≤ length (now bytes)) × (instructionWords * shape .steps .count ≤ length (now words)) ⌝ }
     ensures { λ _. ⌜ record { state = now (state .exit); pages = now (pages .exit); bytes = now (bytes .exit); words = now (words .exit) } ≡ filled (savedAt (now (text .entry)) shape) (record { state = now (state .entry); pages = now (pages .entry); bytes = now (bytes .entry); words = now (words .entry) }) ⌝ }
 {
-    fill_lines(Line::State, text, STATE, 1, state);
-    fill_lines(Line::Page, text, BODY, shape.pages, pages);
-    fill_pages(text, shape.pages, bytes);
-    let at = BODY + PAGE_LINE * shape.pages + WORD_LINE * shape.words;
-    fill_lines(Line::Do, text, at, shape.steps, words);
+    fill_lines(Line::State, text, shape.state, state);
+    fill_lines(Line::Page, text, shape.pages, pages);
+    fill_pages(text, shape.pages, shape.words.at, bytes);
+    fill_lines(Line::Do, text, shape.steps, words);
 }
 
 // A run that passed its tests, where every part fits.
@@ -115,13 +111,13 @@ fn load(
     bytes: &mut [u8],
     words: &mut [u64],
 ) -> Reading
-    requires { ⌜ Shaped (now text) shape × (shape .pages ≤ pageLimit) ⌝ }
+    requires { ⌜ Shaped (now text) shape × (shape .pages .count ≤ pageLimit) ⌝ }
     ensures { λ r. ⌜ record { answer = r; buffers = record { state = now (state .exit); pages = now (pages .exit); bytes = now (bytes .exit); words = now (words .exit) } } ≡ byTest Passed (savedAt (now (text .entry)) shape) (record { state = now (state .entry); pages = now (pages .entry); bytes = now (bytes .entry); words = now (words .entry) }) ⌝ }
 {
     let sizes = Sizes {
-        pages: shape.pages,
-        bytes: PAGE_BYTES * shape.pages,
-        words: 4 * shape.steps,
+        pages: shape.pages.count,
+        bytes: PAGE_BYTES * shape.pages.count,
+        words: INSTRUCTION_WORDS * shape.steps.count,
     };
     if !fits(sizes, state.len(), pages.len(), bytes.len(), words.len()) {
         return Reading::TooLong(sizes);

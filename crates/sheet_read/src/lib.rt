@@ -2,6 +2,7 @@
 mod buffers;
 mod fill;
 mod scan;
+mod stage;
 
 pub use buffers::Reading;
 pub use buffers::Sizes;

@@ -1,45 +1,28 @@
-// Judging a text: how many lines of each kind it has, or the first line that no sheet has. Nothing is written.
+// Judging a text: where the lines of each kind stand and how many they are, or the first line that no sheet has. Nothing is written.
 ghost use mathlib.Core.Path.{_≡_};
-ghost use Prim.Native.Nat.{_+_, _*_, _≤_};
+ghost use Prim.Native.Nat.{_≤_};
 ghost use lib.ListN.{length, drop};
 ghost use Rattle.pages.specs.Pages.{pageOf};
 ghost use Rattle.sheet.specs.Lines.{lines};
-ghost use Rattle.sheet.specs.Sheets.{slots};
-ghost use Rattle.sheet.specs.Reading.{pageCount, slotValue, doCount};
+ghost use Rattle.sheet.specs.Sheets.{slots, lineCount};
+ghost use Rattle.sheet.specs.Reading.{plainCount, pageCount, slotValue};
 ghost use Rattle.sheet.specs.declared.line.Line.the-variants.{Page as PageLine};
-ghost use Rattle.sheet_read.specs.Scan.{Lead, lineCount, slotCount, wordCount, bodyAt, wordsAt, entriesIn, Headed, Scanned};
-use memory::PAGE_BYTES;
+ghost use Rattle.sheet_read.specs.Scan.{Stands, numbersIn, slotCount, wordCount, Headed, Scanned};
+use crate::stage::Stage;
+use crate::stage::field;
+use crate::stage::past;
+use memory::frame;
+use memory::page_of;
 use sheet::Line;
 use sheet::SLOTS;
 use sheet::VERSION;
-use sheet::number;
 
-// Where the state stands, behind the line of the version; and the lines after both.
-pub(crate) const STATE: usize = 24;
-
-pub(crate) const BODY: usize = 210;
-
-// How long a page line, a word line and a do line are.
-pub(crate) const PAGE_LINE: usize = 23;
-
-pub(crate) const WORD_LINE: usize = 41;
-
-pub(crate) const DO_LINE: usize = 75;
-
-// Where the number of a sheet line begins, that of a page line, and the two of a word line.
-const VERSION_AT: usize = 7;
-
-pub(crate) const ENTRY_AT: usize = 6;
-
-const ADDRESS_AT: usize = 6;
-
-const VALUE_AT: usize = 24;
-
-// How many page, word and do lines a sheet has.
+// The state, page, word and do lines of a sheet.
 pub(crate) struct Shape {
-    pub pages: usize,
-    pub words: usize,
-    pub steps: usize,
+    pub state: Stage,
+    pub pages: Stage,
+    pub words: Stage,
+    pub steps: Stage,
 }
 
 // What a text is.
@@ -49,21 +32,21 @@ pub(crate) enum Scan {
     NoSheet(usize),
 }
 
-// How many page lines there are, up to the first whose address is not above the one before it.
-fn count_pages(text: &[u8]) -> usize
-    ensures { λ r. ⌜ r ≡ pageCount 0 (lines (drop bodyAt (now (text .entry)))) ⌝ }
+// How many page lines there are from a place on, up to the first whose address is not above the one before it.
+fn count_pages(text: &[u8], at: usize) -> usize
+    ensures { λ r. ⌜ r ≡ pageCount 0 (lines (drop at (now (text .entry)))) ⌝ }
 {
     let mut n: usize = 0;
     let mut least: u64 = 0;
-    let mut at = BODY;
-    while Line::Page.stands(text, at) {
-        let frame = number(text, at + ENTRY_AT) / (PAGE_BYTES as u64);
+    let mut here = at;
+    while Line::Page.stands(text, here) {
+        let frame = frame(field(Line::Page, text, here, 0));
         if frame < least {
             return n;
         }
         least = frame + 1;
         n += 1;
-        at += PAGE_LINE;
+        here = past(Line::Page, here, 1);
     }
     n
 }
@@ -75,10 +58,10 @@ pub(crate) fn slot_value(text: &[u8], at: usize, address: u64) -> u64
     if !Line::Word.stands(text, at) {
         return 0;
     }
-    if number(text, at + ADDRESS_AT) != address {
+    if field(Line::Word, text, at, 0) != address {
         return 0;
     }
-    number(text, at + VALUE_AT)
+    field(Line::Word, text, at, 1)
 }
 
 // How many lines a value takes: none where it is 0.
@@ -86,13 +69,6 @@ pub(crate) fn line_count(value: u64) -> usize
     ensures { λ r. ⌜ r ≡ lineCount value ⌝ }
 {
     if value == 0 { 0 } else { 1 }
-}
-
-// The address of an entry's page.
-pub(crate) fn page_of(entry: u64) -> u64
-    ensures { λ r. ⌜ r ≡ pageOf entry ⌝ }
-{
-    entry / (PAGE_BYTES as u64) * (PAGE_BYTES as u64)
 }
 
 // How many lines the values of an entry's page take, from a place on.
@@ -107,75 +83,88 @@ fn words_of_page(text: &[u8], at: usize, entry: u64) -> usize
     while slot < SLOTS as u64 {
         let found = line_count(slot_value(text, here, base + 8 * slot));
         n += found;
-        here += WORD_LINE * found;
+        here = past(Line::Word, here, found);
         slot += 1;
     }
     n
 }
 
-// How many lines the values of all pages take.
-fn count_words(text: &[u8], pages: usize) -> usize
-    requires { ⌜ (bodyAt ≤ length (now text)) × Lead PageLine pages (lines (drop bodyAt (now text))) ⌝ }
-    ensures { λ r. ⌜ r ≡ wordCount (entriesIn pages (drop bodyAt (now (text .entry)))) (lines (drop (wordsAt pages) (now (text .entry)))) ⌝ }
+// How many lines the values of all pages take, from a place on.
+fn count_words(text: &[u8], pages: Stage, at: usize) -> usize
+    requires { ⌜ (pages .at ≤ length (now text)) × Stands PageLine pages (now text) × (at ≤ length (now text)) ⌝ }
+    ensures { λ r. ⌜ r ≡ wordCount (numbersIn PageLine pages (now (text .entry))) (lines (drop at (now (text .entry)))) ⌝ }
 {
     let mut n: usize = 0;
-    let mut here = BODY + PAGE_LINE * pages;
-    let mut page = BODY;
-    let mut left = pages;
+    let mut here = at;
+    let mut page = pages.at;
+    let mut left = pages.count;
     while 0 < left {
-        let found = words_of_page(text, here, number(text, page + ENTRY_AT));
+        let found = words_of_page(text, here, field(Line::Page, text, page, 0));
         n += found;
-        here += WORD_LINE * found;
-        page += PAGE_LINE;
+        here = past(Line::Word, here, found);
+        page = past(Line::Page, page, 1);
         left -= 1;
     }
     n
 }
 
-// How many instructions are listed, from a place on.
-fn count_steps(text: &[u8], at: usize) -> usize
-    ensures { λ r. ⌜ r ≡ doCount (lines (drop at (now (text .entry)))) ⌝ }
+// How many plain lines of a kind there are from a place on.
+fn count_plain(line: Line, text: &[u8], at: usize) -> usize
+    ensures { λ r. ⌜ r ≡ plainCount line (lines (drop at (now (text .entry)))) ⌝ }
 {
     let mut n: usize = 0;
     let mut here = at;
-    while Line::Do.stands(text, here) {
+    while line.stands(text, here) {
         n += 1;
-        here += DO_LINE;
+        here += line.width();
     }
     n
 }
 
-// What a text is whose version and state are good.
-fn scan_body(text: &[u8]) -> Scan
-    requires { ⌜ Headed (now text) ⌝ }
+// What a text is whose version is good, and whose state stands here.
+fn scan_body(text: &[u8], state: Stage) -> Scan
+    requires { ⌜ Headed (now text) state ⌝ }
     ensures { λ r. ⌜ Scanned (now (text .entry)) r ⌝ }
 {
-    let pages = count_pages(text);
-    let words = count_words(text, pages);
-    let at = BODY + PAGE_LINE * pages + WORD_LINE * words;
-    let steps = count_steps(text, at);
-    if at + DO_LINE * steps != text.len() {
-        return Scan::NoSheet(3 + pages + words + steps);
+    let at = past(Line::State, state.at, state.count);
+    let pages = Stage {
+        at,
+        count: count_pages(text, at),
+    };
+    let at = past(Line::Page, at, pages.count);
+    let words = Stage {
+        at,
+        count: count_words(text, pages, at),
+    };
+    let at = past(Line::Word, at, words.count);
+    let steps = Stage {
+        at,
+        count: count_plain(Line::Do, text, at),
+    };
+    if past(Line::Do, at, steps.count) != text.len() {
+        return Scan::NoSheet(3 + pages.count + words.count + steps.count);
     }
     Scan::Sheet(Shape {
+        state,
         pages,
         words,
         steps,
     })
 }
 
-// What a text is.
+// What a text is: by the version that its first line names, of which one is known.
 pub(crate) fn scan_sheet(text: &[u8]) -> Scan
     ensures { λ r. ⌜ Scanned (now (text .entry)) r ⌝ }
 {
     if !Line::Sheet.stands(text, 0) {
         return Scan::NoSheet(1);
     }
-    if number(text, VERSION_AT) != VERSION {
+    if field(Line::Sheet, text, 0, 0) != VERSION {
         return Scan::NoSheet(1);
     }
-    if !Line::State.stands(text, STATE) {
+    let at = Line::Sheet.width();
+    if !Line::State.stands(text, at) {
         return Scan::NoSheet(2);
     }
-    scan_body(text)
+    scan_body(text, Stage { at, count: 1 })
 }

@@ -5,11 +5,12 @@ use mathlib.Core.List.{List}
 use lib.ListN.{length}
 use borrow.Author.Tests.{le-leb, lt-leb}
 use Rattle.answers.specs.declared.answer.Refusal.{Refusal}
+use Rattle.processor.specs.Layout.{goodState}
 use Rattle.replay.specs.Run.{checkBy}
 use Rattle.replay.specs.declared.steps.Tested.the-variants.{Passed, Failed}
-use Rattle.sheet.specs.Buffers.{laid}
+use Rattle.numbers.specs.Buffers.{laid}
 use Rattle.sheet.specs.Sheets.{text, savedOf}
-use Rattle.sheet_write.specs.Writes.{Written, goodState, printed, writes}
+use Rattle.sheet_write.specs.Writes.{Written, printed, writes}
 use Rattle.sheet_write.specs.declared.text.Writing.the-variants.{Done, Refused, TooLong}
 
 module _ (whole out : List ℕ) (long : ℕ) (long-is : long ≡ length whole) where

@@ -5,13 +5,13 @@ use mathlib.Core.List.{List, [], _∷_, _++_, append-assoc, append-nil}
 use native.Mathlib.Omega.{arith}
 use lib.ListN.{length, length-append}
 use borrow.Author.Tests.{eq-eqb, ne-eqb}
-use Rattle.sheet.specs.Buffers.{laid, laidIf}
-use Rattle.sheet.specs.Lines.{fieldCount, width, line, joined}
+use Rattle.numbers.specs.Buffers.{laid}
+use Rattle.sheet.specs.Lines.{fieldCount, width, line, joined, putLine}
 use Rattle.sheet.specs.Sheets.{wordLine}
 use Rattle.sheet.specs.declared.line.Line.{Line}
 use Rattle.sheet.specs.declared.line.Line.the-variants.{Word}
-use Rattle.sheet.proofs.BufferLaws.{length-laid, laid-nil, laid-turn, laid-if}
-use Rattle.sheet.proofs.LineLaws.{line-length}
+use Rattle.numbers.proofs.Laws.{length-laid, laid-nil, laid-turn}
+use Rattle.sheet.proofs.LineLaws.{line-length, line-put}
 use Rattle.sheet_write.specs.Laying.{Laying}
 
 -- ---- lines joined to a text
@@ -73,11 +73,11 @@ module _ (out : List ℕ) (at : ℕ) (whole now : List ℕ) (place : ℕ) (rest 
 
 -- a line with its own count of numbers, where there is room
 pub lay-line : (kind : Line) (values out : List ℕ) (at : ℕ) (after : List ℕ) (wide : ℕ)
-    → length values ≡ fieldCount kind → at + width kind ≤ length out → after ≡ laidIf out at (line kind values) → wide ≡ width kind
+    → length values ≡ fieldCount kind → at + width kind ≤ length out → after ≡ putLine kind values out at → wide ≡ width kind
     → Laying out at (line kind values) after (at + wide)
 lay-line kind values out at after wide whole room after-is wide-is =
     let long = line-length kind values whole in
-    record { text = after-is ∙ laid-if out at (line kind values) (omega arith); place = omega arith }
+    record { text = after-is ∙ line-put kind values out at whole room; place = omega arith }
 
 -- the next line fits
 pub line-room : (kind : Line) (values out : List ℕ) (at : ℕ) (whole now : List ℕ) (place : ℕ) (rest later : List ℕ) → length values ≡ fieldCount kind → Left out at whole now place rest
@@ -98,7 +98,7 @@ module _ (address value : ℕ) where
   pub lay-zero : (out : List ℕ) (at : ℕ) → value ≡ 0 → Laying out at (joined (wordLine address value)) out at
   lay-zero out at e = rw (word-none e) (lay-none out at)
 
-  pub word-room : (at n : ℕ) → (value ≡ 0 → ⊥) → at + length (joined (wordLine address value)) ≤ n → at + 41 ≤ n
+  pub word-room : (at n : ℕ) → (value ≡ 0 → ⊥) → at + length (joined (wordLine address value)) ≤ n → at + width Word ≤ n
   word-room at n e room = let long = ap length (word-one e) ∙ line-length Word (address ∷ value ∷ []) refl in omega arith
 
   pub lay-value : (out : List ℕ) (at : ℕ) (after : List ℕ) (next : ℕ) → (value ≡ 0 → ⊥)

@@ -1,6 +1,5 @@
 -- Laws that belong to no one function. The crates above cite `Sizes`.
 pub mod Sizes
-mod Nearer
 mod Ascending
 mod Apart
 mod Turns

@@ -1,16 +1,22 @@
 -- The lines that are still to be laid, from a turn of each loop on. Assumes nothing.
-use Prim.Native.Nat.{ℕ, suc, _+_, _-_, _*_, _^_, _<_, _≤_}
+use Prim.Native.Nat.{ℕ, suc, _+_, _-_, _*_, _/_, _^_, _<_, _≤_}
 use mathlib.Core.Path.{_≡_, refl, sym, _∙_, ap, ap₂}
 use mathlib.Core.List.{List, [], _∷_, _++_}
 use mathlib.Core.Logic.{⊎-elim}
 use native.Mathlib.Omega.{arith}
-use lib.ListN.{length, getD, take, drop}
-use Rattle.pages.specs.Pages.{pageBytes, pageOf}
-use Rattle.pages.proofs.Laws.{page-and-offset}
-use Rattle.sheet.specs.Lines.{line, joined}
-use Rattle.sheet.specs.Sheets.{Page, frameOf, little, wordLine, wordLines, slots, doLines}
-use Rattle.sheet.specs.declared.line.Line.the-variants.{Page as PageLine, Do}
-use Rattle.sheet_write.specs.Order.{Nearest, from, Lent}
+use native.Mathlib.Nat.{div-eq-sub-div, div-eq-of-lt}
+use native.Mathlib.Numerals.{add-one}
+use lib.ListN.{length, getD, take, drop, length-drop}
+use lib.Seq.{drop-drop}
+use Rattle.numbers.specs.Numbers.{numberAt}
+use Rattle.pages.specs.Pages.{pageBytes, pageOf, frameOf}
+use Rattle.pages.specs.Order.{Nearest}
+use Rattle.sheet.specs.Lines.{fieldCount, line, joined}
+use Rattle.sheet.specs.Sheets.{Page, wordLine, wordLines, slots, plainLines, allPlain}
+use Rattle.sheet.specs.declared.line.Line.{Line}
+use Rattle.sheet.specs.declared.line.Line.the-variants.{Page as PageLine}
+use Rattle.sheet.proofs.LineLaws.{some-fields}
+use Rattle.sheet_write.specs.Order.{from, Lent}
 use Rattle.sheet_write.specs.Laying.{linesOf, allLines}
 use Rattle.sheet_write.specs.declared.lay.Pass.{Pass}
 use Rattle.sheet_write.specs.declared.lay.Pass.the-variants.{Entries, Values}
@@ -24,9 +30,9 @@ use Rattle.sheet_write.proofs.Lays.{Begins, joined-append, joined-one}
 abbrev pub wordsFrom : ℕ → ℕ → List ℕ → ℕ → List ℕ
 wordsFrom base n page k = joined (wordLines (base + 8 * k) (n - k) (drop (8 * k) page))
 
-pub words-suc : (address n : ℕ) (bytes : List ℕ) → joined (wordLines address (suc n) bytes) ≡ joined (wordLine address (little 8 bytes)) ++ joined (wordLines (address + 8) n (drop 8 bytes))
+pub words-suc : (address n : ℕ) (bytes : List ℕ) → joined (wordLines address (suc n) bytes) ≡ joined (wordLine address (numberAt bytes 0 8)) ++ joined (wordLines (address + 8) n (drop 8 bytes))
 unfolding wordLines
-words-suc address n bytes = joined-append (wordLine address (little 8 bytes)) (wordLines (address + 8) n (drop 8 bytes))
+words-suc address n bytes = joined-append (wordLine address (numberAt bytes 0 8)) (wordLines (address + 8) n (drop 8 bytes))
 
 module _ (base n : ℕ) (page : List ℕ) where
   pub words-start : joined (wordLines base n page) ≡ wordsFrom base n page 0
@@ -35,7 +41,7 @@ module _ (base n : ℕ) (page : List ℕ) where
       let all : n ≡ n - 0 = omega arith in
       ap₂ (λ (address left : ℕ). joined (wordLines address left page)) here all
 
-  pub words-turn : (k value : ℕ) → k < n → value ≡ little 8 (drop (8 * k) page) → Begins (wordsFrom base n page k) (joined (wordLine (base + 8 * k) value)) (wordsFrom base n page (k + 1))
+  pub words-turn : (k value : ℕ) → k < n → value ≡ numberAt (drop (8 * k) page) 0 8 → Begins (wordsFrom base n page k) (joined (wordLine (base + 8 * k) value)) (wordsFrom base n page (k + 1))
   words-turn k value h value-is =
       let next : base + 8 * k + 8 ≡ base + 8 * (k + 1) = omega arith in
       record {
@@ -48,31 +54,36 @@ module _ (base n : ℕ) (page : List ℕ) where
   unfolding wordLines joined
   words-end k h = ap (λ (left : ℕ). joined (wordLines (base + 8 * k) left (drop (8 * k) page))) (none-less n k h)
 
--- ---- the instructions
+-- ---- plain lines
 
--- n instructions, from the k-th on
-abbrev pub stepsFrom : ℕ → List ℕ → ℕ → List ℕ
-stepsFrom n words k = joined (doLines (n - k) (drop (4 * k) words))
+module _ (kind : Line) (numbers : List ℕ) where
+  plain-suc : (n : ℕ) → joined (plainLines kind (suc n) numbers) ≡ line kind (take (fieldCount kind) numbers) ++ joined (plainLines kind n (drop (fieldCount kind) numbers))
+  unfolding plainLines joined
+  plain-suc n = refl
 
-pub steps-suc : (n : ℕ) (words : List ℕ) → joined (doLines (suc n) words) ≡ line Do (take 4 words) ++ joined (doLines n (drop 4 words))
-unfolding doLines joined
-steps-suc n words = refl
+  -- as many lines as there are numbers for: one, and those of the rest
+  pub plain-more : fieldCount kind ≤ length numbers
+      → joined (allPlain kind numbers) ≡ line kind (take (fieldCount kind) numbers) ++ joined (allPlain kind (drop (fieldCount kind) numbers))
+  plain-more enough =
+      let one : length numbers / fieldCount kind ≡ suc (length (drop (fieldCount kind) numbers) / fieldCount kind)
+      = rw (length-drop (fieldCount kind) numbers) (div-eq-sub-div (some-fields kind) enough ∙ add-one _)
+      in
+      ap (λ (n : ℕ). joined (plainLines kind n numbers)) one ∙ plain-suc (length (drop (fieldCount kind) numbers) / fieldCount kind)
 
-module _ (n : ℕ) (words : List ℕ) where
-  pub steps-start : joined (doLines n words) ≡ stepsFrom n words 0
-  steps-start = let all : n ≡ n - 0 = omega arith in ap (λ (left : ℕ). joined (doLines left words)) all
+  pub plain-none : length numbers < fieldCount kind → joined (allPlain kind numbers) ≡ []
+  unfolding plainLines joined
+  plain-none few = ap (λ (n : ℕ). joined (plainLines kind n numbers)) (div-eq-of-lt few)
 
-  -- the words as the code lends them
-  pub steps-turn : (k : ℕ) → k < n → Begins (stepsFrom n words k) (line Do (take (4 * k + 4 - 4 * k) (drop (4 * k) words))) (stepsFrom n words (k + 1))
-  steps-turn k h = record {
-    split = ap (λ (left : ℕ). joined (doLines left (drop (4 * k) words))) (one-less n k h)
-        ∙ steps-suc (n - (k + 1)) (drop (4 * k) words)
-        ∙ ap₂ (λ (own rest : List ℕ). line Do own ++ joined (doLines (n - (k + 1)) rest)) (sym (part (4 * k) 4 words)) (later 4 k words);
-  }
+-- from a place of the numbers on, as the code lends them
+module _ (kind : Line) (numbers : List ℕ) (at : ℕ) where
+  pub plain-turn : fieldCount kind ≤ length numbers - at
+      → Begins (joined (allPlain kind (drop at numbers))) (line kind (take (at + fieldCount kind - at) (drop at numbers))) (joined (allPlain kind (drop (at + fieldCount kind) numbers)))
+  plain-turn enough =
+      let there : fieldCount kind ≤ length (drop at numbers) = rw (length-drop at numbers) enough in
+      record { split = plain-more kind (drop at numbers) there ∙ rw (part at (fieldCount kind) numbers, drop-drop (fieldCount kind) at numbers) }
 
-  pub steps-end : (k : ℕ) → n ≤ k → stepsFrom n words k ≡ []
-  unfolding doLines joined
-  steps-end k h = ap (λ (left : ℕ). joined (doLines left (drop (4 * k) words))) (none-less n k h)
+  pub plain-end : length numbers - at < fieldCount kind → joined (allPlain kind (drop at numbers)) ≡ []
+  plain-end few = plain-none kind (drop at numbers) (rw (length-drop at numbers) few)
 
 -- ---- the pages
 
@@ -121,15 +132,12 @@ pages-start pass entries bytes = ap (λ (ps : List Page). joined (allLines pass 
 pub entry-text : (pass : Pass) (entry : ℕ) (page : List ℕ) → pass ≡ Entries → joined (linesOf pass (record { entry = entry; bytes = page })) ≡ line PageLine (entry ∷ [])
 entry-text pass entry page e = rw e (joined-one (line PageLine (entry ∷ [])))
 
--- its values, by the number of the page
-pub values-text : (pass : Pass) (entry : ℕ) (page : List ℕ) (frame : ℕ) → pass ≡ Values → frame ≡ frameOf entry
-    → joined (linesOf pass (record { entry = entry; bytes = page })) ≡ joined (wordLines (frame * pageBytes) slots page)
-unfolding frameOf
-values-text pass entry page frame e frame-is =
-    let first : pageOf entry ≡ frame * pageBytes = omega (arith, page-and-offset entry) in
-    rw (e, first)
+-- its values
+pub values-text : (pass : Pass) (entry : ℕ) (page : List ℕ) (base : ℕ) → pass ≡ Values → base ≡ pageOf entry
+    → joined (linesOf pass (record { entry = entry; bytes = page })) ≡ joined (wordLines base slots page)
+values-text pass entry page base e base-is = rw (e, base-is)
 
--- a page ends at 2^64 or before
-pub page-below : (entry frame : ℕ) → entry < 2 ^ 64 → frame ≡ frameOf entry → frame * pageBytes + pageBytes ≤ 2 ^ 64
+-- the number of a page has room for one more
+pub frame-room : (entry frame : ℕ) → entry < 2 ^ 64 → frame ≡ frameOf entry → frame + 1 < 2 ^ 64
 unfolding frameOf
-page-below entry frame h frame-is = omega arith
+frame-room entry frame h frame-is = omega arith

@@ -4,22 +4,26 @@ use mathlib.Core.Path.{_≡_, refl, sym, _∙_, ap, ap₂}
 use mathlib.Core.Bool.{Bool, true, false}
 use mathlib.Core.List.{List, [], _∷_}
 use mathlib.Core.Logic.{⊎-elim}
+use native.Mathlib.Nat.{mul-zero, mul-suc}
 use native.Mathlib.Omega.{arith}
 use lib.ListN.{length, take, drop, length-append, length-drop}
-use lib.Seq.{length-take-le, drop-drop, take-nil}
+use lib.Seq.{length-take-le, drop-drop, take-nil, getD-take}
 use lib.Dec.{eqb}
-use Rattle.pages.specs.Pages.{pageBytes, pageOf}
-use Rattle.sheet.specs.Lines.{line, joined}
-use Rattle.sheet.specs.Sheets.{Page, frameOf, little, wordLine, wordLines, slots, doLines, pagesOf, insert, ascended, text, savedOf}
+use Rattle.numbers.specs.Numbers.{numberAt}
+use Rattle.pages.specs.Pages.{pageBytes, pageOf, frameOf}
+use Rattle.processor.specs.Layout.{fields}
+use Rattle.sheet.specs.Lines.{fieldCount, line, width, joined}
+use Rattle.sheet.specs.Sheets.{Page, lineCount, wordLine, wordLines, slots, plainLines, pagesOf, insert, ascended, version, text, savedOf}
+use Rattle.sheet.specs.declared.line.Line.{Line}
 use Rattle.sheet.specs.declared.line.Line.the-variants.{Sheet, State as StateLine, Page as PageLine, Word, Do}
 use Rattle.sheet.proofs.LineLaws.{line-length}
-use Rattle.sheet_write.specs.Values.{lineCount, nonzeros}
+use Rattle.sheet_write.specs.Values.{nonzeros}
 use Rattle.sheet_write.specs.Laying.{linesOf, allLines, textLength}
 use Rattle.sheet_write.specs.declared.lay.Pass.{Pass}
 use Rattle.sheet_write.specs.declared.lay.Pass.the-variants.{Entries, Values}
 use Rattle.sheet_write.proofs.Ascending.{le-or-lt, before, past}
 use Rattle.sheet_write.proofs.Lays.{Begins, joined-one}
-use Rattle.sheet_write.proofs.Rests.{words-suc, steps-suc, pages-cons}
+use Rattle.sheet_write.proofs.Rests.{words-suc, pages-cons}
 use Rattle.sheet_write.proofs.Texts.{sheet-first, state-first, entries-first, values-first, steps-first}
 use Rattle.sheet_write.proofs.ValueLaws.{nonzeros-suc}
 
@@ -29,29 +33,28 @@ parts rest piece later begins = ap length (begins .split) ∙ length-append piec
 
 -- ---- values
 
-one-word : (address value : ℕ) → length (joined (wordLine address value)) ≡ 41 * lineCount value
+one-word : (address value : ℕ) → length (joined (wordLine address value)) ≡ width Word * lineCount value
 unfolding joined
 one-word address value = go (eqb value 0) refl
   where
-    go : (t : Bool) → eqb value 0 ≡ t → length (joined (wordLine address value)) ≡ 41 * lineCount value
+    go : (t : Bool) → eqb value 0 ≡ t → length (joined (wordLine address value)) ≡ width Word * lineCount value
     go true e = rw e
     go false e = let long = line-length Word (address ∷ value ∷ []) refl in let all = length-append (line Word (address ∷ value ∷ [])) [] in rw e (omega arith)
 
-words-size : (address n : ℕ) (bytes : List ℕ) → length (joined (wordLines address n bytes)) ≡ 41 * nonzeros n bytes
+words-size : (address n : ℕ) (bytes : List ℕ) → length (joined (wordLines address n bytes)) ≡ width Word * nonzeros n bytes
 unfolding wordLines nonzeros joined
 words-size address zero bytes = refl
 words-size address (suc n) bytes =
-    let whole = ap length (words-suc address n bytes) ∙ length-append (joined (wordLine address (little 8 bytes))) (joined (wordLines (address + 8) n (drop 8 bytes))) in
-    let first = one-word address (little 8 bytes) in
+    let whole = ap length (words-suc address n bytes) ∙ length-append (joined (wordLine address (numberAt bytes 0 8))) (joined (wordLines (address + 8) n (drop 8 bytes))) in
+    let first = one-word address (numberAt bytes 0 8) in
     let rest = words-size (address + 8) n (drop 8 bytes) in
     whole ∙ rw (first, rest) (omega arith)
 
-little-take : (n m : ℕ) (bytes : List ℕ) → n ≤ m → little n (take m bytes) ≡ little n bytes
-unfolding little
-little-take zero m bytes h = refl
-little-take (suc n) zero bytes h = absurd (omega arith)
-little-take (suc n) (suc m) [] h = refl
-little-take (suc n) (suc m) (b ∷ bs) h = ap (λ (rest : ℕ). b + 256 * rest) (little-take n m bs (omega arith))
+number-take : (place n m : ℕ) (bytes : List ℕ) → place + n ≤ m → numberAt (take m bytes) place n ≡ numberAt bytes place n
+unfolding numberAt
+number-take place zero m bytes h = refl
+number-take place (suc n) m bytes h =
+    ap₂ (λ (byte rest : ℕ). byte + 256 * rest) (getD-take m bytes place 0 (omega arith)) (number-take (suc place) n m bytes (omega arith))
 
 drop-take : (n m : ℕ) (xs : List ℕ) → drop n (take (n + m) xs) ≡ take m (drop n xs)
 drop-take zero m xs = let all : 0 + m ≡ m = omega arith in ap (λ (k : ℕ). take k xs) all
@@ -66,7 +69,7 @@ nonzeros-take (suc n) bytes =
     let more : 8 * suc n ≡ 8 + 8 * n = omega arith in
     ap (λ (k : ℕ). nonzeros (suc n) (take k bytes)) more
     ∙ nonzeros-suc n (take (8 + 8 * n) bytes)
-    ∙ ap₂ (λ (value count : ℕ). lineCount value + count) (little-take 8 (8 + 8 * n) bytes (omega arith)) (ap (nonzeros n) (drop-take 8 (8 * n) bytes) ∙ nonzeros-take n (drop 8 bytes))
+    ∙ ap₂ (λ (value count : ℕ). lineCount value + count) (number-take 0 8 (8 + 8 * n) bytes (omega arith)) (ap (nonzeros n) (drop-take 8 (8 * n) bytes) ∙ nonzeros-take n (drop 8 bytes))
 
 nonzeros-add : (n m : ℕ) (bytes : List ℕ) → nonzeros (n + m) bytes ≡ nonzeros n bytes + nonzeros m (drop (8 * n) bytes)
 unfolding nonzeros
@@ -83,7 +86,7 @@ nonzeros-add (suc n) m bytes =
 pub nonzeros-most : (n : ℕ) (bytes : List ℕ) → nonzeros n bytes ≤ n
 unfolding nonzeros
 nonzeros-most zero bytes = omega arith
-nonzeros-most (suc n) bytes = let rest = nonzeros-most n (drop 8 bytes) in let one = at-most (little 8 bytes) in omega arith
+nonzeros-most (suc n) bytes = let rest = nonzeros-most n (drop 8 bytes) in let one = at-most (numberAt bytes 0 8) in omega arith
   where
     at-most : (value : ℕ) → lineCount value ≤ 1
     at-most value = go (eqb value 0) refl
@@ -92,16 +95,18 @@ nonzeros-most (suc n) bytes = let rest = nonzeros-most n (drop 8 bytes) in let o
         go true e = rw e (omega arith)
         go false e = rw e (omega arith)
 
--- ---- instructions
+-- ---- plain lines
 
-steps-size : (n : ℕ) (words : List ℕ) → 4 * n ≤ length words → length (joined (doLines n words)) ≡ 75 * n
-unfolding doLines joined
-steps-size zero words h = refl
-steps-size (suc n) words h =
-    let whole = ap length (steps-suc n words) ∙ length-append (line Do (take 4 words)) (joined (doLines n (drop 4 words))) in
-    let first = line-length Do (take 4 words) (length-take-le 4 words (omega arith)) in
-    let rest = steps-size n (drop 4 words) (simp length-drop (omega arith)) in
-    omega arith
+plain-size : (kind : Line) (n : ℕ) (numbers : List ℕ) → fieldCount kind * n ≤ length numbers → length (joined (plainLines kind n numbers)) ≡ width kind * n
+unfolding plainLines joined
+plain-size kind zero numbers h = rw mul-zero
+plain-size kind (suc n) numbers h =
+    let own : fieldCount kind * suc n ≡ fieldCount kind * n + fieldCount kind = mul-suc (fieldCount kind) n in
+    let all : width kind * suc n ≡ width kind * n + width kind = mul-suc (width kind) n in
+    let whole = length-append (line kind (take (fieldCount kind) numbers)) (joined (plainLines kind n (drop (fieldCount kind) numbers))) in
+    let first = line-length kind (take (fieldCount kind) numbers) (length-take-le (fieldCount kind) numbers (omega arith)) in
+    let rest = plain-size kind n (drop (fieldCount kind) numbers) (rw (length-drop (fieldCount kind) numbers) (omega arith)) in
+    whole ∙ rw (first, rest, all) (omega arith)
 
 -- ---- pages
 
@@ -130,7 +135,7 @@ unfolding ascended
 size-ascended pass [] = refl
 size-ascended pass (p ∷ ps) = size-insert pass p (ascended ps) ∙ ap (λ (n : ℕ). length (joined (linesOf pass p)) + n) (size-ascended pass ps) ∙ sym (size-cons pass p ps)
 
-entries-size : (entries bytes : List ℕ) → size Entries (pagesOf entries bytes) ≡ 23 * length entries
+entries-size : (entries bytes : List ℕ) → size Entries (pagesOf entries bytes) ≡ width PageLine * length entries
 unfolding pagesOf allLines joined
 entries-size [] bytes = refl
 entries-size (entry ∷ entries) bytes =
@@ -143,11 +148,11 @@ none : (bytes : List ℕ) → nonzeros 0 bytes ≡ 0
 unfolding nonzeros
 none bytes = refl
 
-values-size : (entries bytes : List ℕ) → size Values (pagesOf entries bytes) ≡ 41 * nonzeros (slots * length entries) bytes
+values-size : (entries bytes : List ℕ) → size Values (pagesOf entries bytes) ≡ width Word * nonzeros (slots * length entries) bytes
 unfolding pagesOf allLines joined
-values-size [] bytes = ap (λ (n : ℕ). 41 * n) (sym (none bytes))
+values-size [] bytes = ap (λ (n : ℕ). width Word * n) (sym (none bytes))
 values-size (entry ∷ entries) bytes =
-    let first = words-size (pageOf entry) slots (take pageBytes bytes) ∙ ap (λ (n : ℕ). 41 * n) (nonzeros-take slots bytes) in
+    let first = words-size (pageOf entry) slots (take pageBytes bytes) ∙ ap (λ (n : ℕ). width Word * n) (nonzeros-take slots bytes) in
     let rest = values-size entries (drop pageBytes bytes) in
     let whole = size-cons Values (record { entry = entry; bytes = take pageBytes bytes }) (pagesOf entries (drop pageBytes bytes)) in
     let more : slots * suc (length entries) ≡ slots + slots * length entries = omega arith in
@@ -157,19 +162,19 @@ values-size (entry ∷ entries) bytes =
 -- ---- the whole
 
 -- the length that the code adds up
-pub text-size : (state entries bytes words : List ℕ) → length state ≡ 10 → length bytes ≡ pageBytes * length entries
-    → length (text (savedOf state entries bytes words)) ≡ textLength (length entries) (nonzeros (length bytes / 8) bytes) (length words / 4)
+pub text-size : (state entries bytes words : List ℕ) → length state ≡ fields → length bytes ≡ pageBytes * length entries
+    → length (text (savedOf state entries bytes words)) ≡ textLength (length entries) (nonzeros (length bytes / 8) bytes) (length words / fieldCount Do)
 unfolding textLength
-text-size state entries bytes words fields whole =
+text-size state entries bytes words full whole =
     let one = parts _ _ _ (sheet-first state entries bytes words) in
     let two = parts _ _ _ (state-first state entries bytes words) in
     let three = parts _ _ _ (entries-first state entries bytes words) in
     let four = parts _ _ _ (values-first state entries bytes words) in
     let five = parts _ _ _ (steps-first state entries bytes words) in
-    let sheet-is = line-length Sheet (1 ∷ []) refl in
-    let state-is = line-length StateLine state fields in
+    let sheet-is = line-length Sheet (version ∷ []) refl in
+    let state-is = line-length StateLine state full in
     let entries-are = size-ascended Entries (pagesOf entries bytes) ∙ entries-size entries bytes in
     let values-are = size-ascended Values (pagesOf entries bytes) ∙ values-size entries bytes in
-    let steps-are = steps-size (length words / 4) words (omega arith) in
+    let steps-are = plain-size Do (length words / fieldCount Do) words (omega arith) in
     let count : length bytes / 8 ≡ slots * length entries = omega arith in
     rw count (omega arith)

@@ -3,7 +3,7 @@ use Prim.Native.Nat.{ℕ, _+_, _*_}
 use mathlib.Core.Path.{_≡_}
 use mathlib.Core.List.{List, [], _∷_, _++_}
 use lib.ListN.{length}
-use Rattle.sheet.specs.Buffers.{laid}
+use Rattle.numbers.specs.Buffers.{laid}
 use Rattle.sheet.specs.Lines.{line, width}
 use Rattle.sheet.specs.Sheets.{Page, pageWords}
 use Rattle.sheet.specs.declared.line.Line.the-variants.{Sheet, State as StateLine, Page as PageLine, Word, Do}

@@ -1,18 +1,15 @@
 -- Writing a run as a sheet (docs/RULES.md, "Run sheets"): the answer, and what the text's buffer holds after it. Assumes nothing.
 use Prim.Native.Nat.{ℕ}
-use mathlib.Core.Bool.{Bool, cond, _&&_}
+use mathlib.Core.Bool.{cond}
 use mathlib.Core.List.{List}
 use lib.ListN.{length}
-use lib.Dec.{eqb, leb}
-use Rattle.processor.specs.State.{inRange}
-use Rattle.processor.specs.Layout.{stateOf}
+use lib.Dec.{leb}
+use Rattle.processor.specs.Layout.{goodState}
 use Rattle.replay.specs.Run.{checkBy}
 use Rattle.replay.specs.declared.steps.Tested.{Tested}
 use Rattle.replay.specs.declared.steps.Tested.the-variants.{Passed, Failed}
-use Rattle.sheet.specs.Lines.{fieldCount}
-use Rattle.sheet.specs.declared.line.Line.the-variants.{State as StateLine}
 use Rattle.sheet.specs.Sheets.{savedOf, text}
-use Rattle.sheet.specs.Buffers.{laid}
+use Rattle.numbers.specs.Buffers.{laid}
 use Rattle.sheet_write.specs.declared.text.Writing.{Writing}
 use Rattle.sheet_write.specs.declared.text.Writing.the-variants.{Done, Refused, TooLong}
 
@@ -20,10 +17,6 @@ use Rattle.sheet_write.specs.declared.text.Writing.the-variants.{Done, R
 pub record Written : Type 0 where
   pub answer : Writing
   pub text : List ℕ
-
--- a state of ten fields, each in its range
-unfoldable pub goodState : List ℕ → Bool
-goodState state = eqb (length state) (fieldCount StateLine) && inRange (stateOf state)
 
 -- a text at the front of its buffer, where it fits; what lies past it stays
 unfoldable pub printed : List ℕ → List ℕ → Written

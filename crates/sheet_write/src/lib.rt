@@ -1,6 +1,5 @@
 // Writing a run as a sheet into a lent buffer.
 mod lay;
-mod order;
 mod text;
 mod values;
 

@@ -1,18 +1,20 @@
 // A run into the text of its sheet: nothing is written before the run is judged and the text is known to fit.
 ghost use mathlib.Core.Path.{_≡_};
-ghost use Prim.Native.Nat.{_≤_};
+ghost use Prim.Native.Nat.{_*_, _≤_};
 ghost use lib.ListN.{length};
-ghost use Rattle.replay.specs.Run.{checkBy};
+ghost use Rattle.pages.specs.Pages.{pageLimit};
+ghost use Rattle.processor.specs.Layout.{goodState};
+ghost use Rattle.replay.specs.Run.{instructionLimit, checkBy};
 ghost use Rattle.replay.specs.declared.steps.Tested.the-variants.{Passed};
-ghost use Rattle.sheet.specs.Sheets.{text as textOf, savedOf};
+ghost use Rattle.sheet.specs.Sheets.{slots, text as textOf, savedOf};
 ghost use Rattle.sheet_write.specs.Laying.{textLength};
-ghost use Rattle.sheet_write.specs.Writes.{goodState, printed, writes};
-use crate::lay::STEP_WORDS;
+ghost use Rattle.sheet_write.specs.Writes.{printed, writes};
 use crate::lay::lay;
 use crate::values::nonzero;
+use instructions::INSTRUCTION_WORDS;
 use processor::Refusal;
+use processor::good_state;
 use replay::Tested;
-use sheet::FIELDS;
 use sheet::Line;
 
 // What writing a run answers.
@@ -25,19 +27,9 @@ pub enum Writing {
     TooLong(usize),
 }
 
-// Whether there are ten fields, each in its range.
-fn good_state(state: &[u64]) -> bool
-    ensures { λ r. ⌜ r ≡ goodState (now (state .entry)) ⌝ }
-{
-    if state.len() != FIELDS {
-        return false;
-    }
-    replay::state_of(state).in_range()
-}
-
 // How long a sheet is with so many pages, values and instructions.
 fn text_length(pages: usize, values: usize, steps: usize) -> usize
-    requires { ⌜ (pages ≤ 16) × (values ≤ 8192) × (steps ≤ 1024) ⌝ }
+    requires { ⌜ (pages ≤ pageLimit) × (values ≤ slots * pageLimit) × (steps ≤ instructionLimit) ⌝ }
     ensures { λ r. ⌜ r ≡ textLength pages values steps ⌝ }
 {
     let head = Line::Sheet.width() + Line::State.width();
@@ -51,7 +43,7 @@ fn print(state: &[u64], pages: &[u64], bytes: &[u8], words: &[u64], text: &mut [
     requires { ⌜ checkBy (now pages) (length (now bytes)) (goodState (now state)) (length (now words)) ≡ Passed ⌝ }
     ensures { λ r. ⌜ record { answer = r; text = now (text .exit) } ≡ printed (textOf (savedOf (now (state .entry)) (now (pages .entry)) (now (bytes .entry)) (now (words .entry)))) (now (text .entry)) ⌝ }
 {
-    let long = text_length(pages.len(), nonzero(bytes), words.len() / STEP_WORDS);
+    let long = text_length(pages.len(), nonzero(bytes), words.len() / INSTRUCTION_WORDS);
     if text.len() < long {
         return Writing::TooLong(long);
     }

@@ -1,7 +1,9 @@
 -- `fill_all` meets its contract: each part is laid into its buffer. Assumes nothing.
-use mathlib.Core.Path.{sym}
-use borrow.Author.Needs.{needs}
+use mathlib.Core.Path.{sym, _∙_, ap}
+use Prim.Native.Nat.{ℕ, _*_}
+use Rattle.processor.specs.Layout.{fields}
 use Rattle.sheet_read.proofs.Saved.{filled-is}
+use borrow.Author.Needs.{needs}
 use Rattle.sheet_read.proofs.buffers.fill_all.Statement.{statement}
 use Rattle.sheet_read.proofs.buffers.fill_all.Tie as tie
 
@@ -13,18 +15,6 @@ fill-lines-requires-2 c κs = search needs
 
 fill-pages-requires : tie.Need-fill-pages-requires
 fill-pages-requires c κs = search needs
-
-mul-at : tie.Need-mul-at
-mul-at c = search needs
-
-add-at : tie.Need-add-at
-add-at c = search needs
-
-mul-at-2 : tie.Need-mul-at-2
-mul-at-2 c = search needs
-
-add-at-2 : tie.Need-add-at-2
-add-at-2 c = search needs
 
 fill-lines-requires-3 : tie.Need-fill-lines-requires-3
 fill-lines-requires-3 c κs = search needs
@@ -44,7 +34,7 @@ same-length-4 c = search needs
 returns : tie.Need-returns
 returns c =
     let after-fill-lines3 = c .before .before in
-    let after-fill-pages = after-fill-lines3 .before .before .before .before .before .before in
+    let after-fill-pages = after-fill-lines3 .before .before .before .before in
     let after-fill-lines2 = after-fill-pages .before .before .before .before in
     let after-fill-lines = after-fill-lines2 .before .before .before .before in
     let start = after-fill-lines .before .before .before .before .before .before .before in
@@ -63,10 +53,6 @@ fill-all-spec =
     fill-lines-requires
     fill-lines-requires-2
     fill-pages-requires
-    mul-at
-    add-at
-    mul-at-2
-    add-at-2
     fill-lines-requires-3
     same-length
     same-length-2

@@ -6,8 +6,8 @@ use native.Mathlib.Omega.{arith}
 use lib.ListN.{length, take, drop, length-set}
 use borrow.Author.Needs.{needs}
 use Rattle.sheet.specs.Lines.{fieldCount, width, values}
-use Rattle.sheet.specs.Buffers.{laid}
-use Rattle.sheet_read.proofs.Fills.{digits-in, field-turn, field-end}
+use Rattle.numbers.specs.Buffers.{laid}
+use Rattle.sheet_read.proofs.Fills.{field-turn, field-end}
 use Rattle.sheet_read.proofs.fill.fill_line.Statement.{statement}
 use Rattle.sheet_read.proofs.fill.fill_line.Tie as tie
 
@@ -28,37 +28,18 @@ loop-holds c = (rw add-zero, refl)
 count-requires : tie.Need-count-requires Inv-loop μ-loop
 count-requires c κs = search needs
 
-first-requires : tie.Need-first-requires Inv-loop μ-loop
-first-requires c κs = search needs
+field-requires : tie.Need-field-requires Inv-loop μ-loop
+field-requires c κs =
+    let after-count = c .before in
+    (start (after-count .before) .pre .0, rw (after-count .count .ensures) at (c .if1 .taken))
 
-inside : (c : tie.After-first Inv-loop μ-loop) →
-    let at-loop = c .before .before .before in
-    start at-loop .args .at + c .first .result + 18 * at-loop .loop .i ≤ length (start at-loop .args .text .now)
-inside c =
-    let after-count = c .before .before in
-    let at-loop = after-count .before in
-    digits-in (start at-loop .args .line) (start at-loop .args .text .now) (start at-loop .args .at) _ (start at-loop .pre .0) (c .first .ensures)
-    (at-loop .loop .i) (rw (after-count .count .ensures) at (c .before .if1 .taken))
+abbrev loopAt : tie.After-field Inv-loop μ-loop → tie.At-loop Inv-loop μ-loop
+loopAt c = c .before .before .before
 
-add-number : tie.Need-add-number Inv-loop μ-loop
-add-number c = omega (arith, inside c)
+less : (c : tie.After-field Inv-loop μ-loop) → loopAt c .loop .i < fieldCount (start (loopAt c) .args .line)
+less c = rw (c .before .before .count .ensures) at (c .before .if1 .taken)
 
-mul-number : tie.Need-mul-number Inv-loop μ-loop
-mul-number c = omega (arith, inside c)
-
-add-number-2 : tie.Need-add-number-2 Inv-loop μ-loop
-add-number-2 c = omega (arith, inside c)
-
-number-requires : tie.Need-number-requires Inv-loop μ-loop
-number-requires c κs = search needs
-
-abbrev loopAt : tie.After-number Inv-loop μ-loop → tie.At-loop Inv-loop μ-loop
-loopAt c = c .before .before .before .before
-
-less : (c : tie.After-number Inv-loop μ-loop) → loopAt c .loop .i < fieldCount (start (loopAt c) .args .line)
-less c = rw (c .before .before .before .count .ensures) at (c .before .before .if1 .taken)
-
-room : (c : tie.After-number Inv-loop μ-loop) → start (loopAt c) .args .to + loopAt c .loop .i < length (loopAt c .loop .out)
+room : (c : tie.After-field Inv-loop μ-loop) → start (loopAt c) .args .to + loopAt c .loop .i < length (loopAt c .loop .out)
 room c = let h = less c in let long = loopAt c .loop .inv .1 in let fits = start (loopAt c) .pre .1 in omega arith
 
 add-out : tie.Need-add-out Inv-loop μ-loop
@@ -79,9 +60,9 @@ loop-less c = let h = less c in omega arith
 loop-again : tie.Need-loop-again Inv-loop μ-loop
 loop-again c = (
   loopAt c .loop .inv .0
-      ∙ field-turn (start (loopAt c) .args .line) (start (loopAt c) .args .text .now) (start (loopAt c) .args .at) _
-      (start (loopAt c) .pre .0) (c .before .first .ensures) (loopAt c .loop .out) (start (loopAt c) .args .to) (loopAt c .loop .i) _
-      (less c) (room c) (c .number .ensures),
+      ∙ field-turn (start (loopAt c) .args .line) (start (loopAt c) .args .text .now) (start (loopAt c) .args .at)
+      (loopAt c .loop .out) (start (loopAt c) .args .to) (loopAt c .loop .i) _
+      (less c) (room c) (c .field .ensures),
   rw length-set (loopAt c .loop .inv .1),
 )
 
@@ -92,7 +73,7 @@ returns : tie.Need-returns Inv-loop μ-loop
 returns c =
     let at-loop = c .before .before in
     sym (at-loop .loop .inv .0
-    ∙ field-end (start at-loop .args .line) (start at-loop .args .text .now) (start at-loop .args .at) _ (start at-loop .pre .0) refl _
+    ∙ field-end (start at-loop .args .line) (start at-loop .args .text .now) (start at-loop .args .at) _
     (start at-loop .args .to) _ (rw (c .before .count .ensures) at (c .if1 .left)))
 
 pub fill-line-spec : {M : Type 1} → statement M
@@ -103,11 +84,7 @@ fill-line-spec =
     μ-loop
     loop-holds
     count-requires
-    first-requires
-    add-number
-    mul-number
-    add-number-2
-    number-requires
+    field-requires
     add-out
     mul-out
     slice-write-out

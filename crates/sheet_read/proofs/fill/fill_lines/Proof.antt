@@ -7,8 +7,8 @@ use lib.ListN.{length, take, drop}
 use borrow.Author.Needs.{needs}
 use Rattle.sheet.specs.Lines.{lines, begins, form, fieldCount, width}
 use Rattle.sheet.specs.Reading.{numbers}
-use Rattle.sheet.specs.Buffers.{laid}
-use Rattle.sheet_read.specs.Scan.{Lead}
+use Rattle.numbers.specs.Buffers.{laid}
+use Rattle.sheet_read.specs.Scan.{Lead, numbersIn}
 use Rattle.sheet_read.proofs.Leads.{lead-front, lead-next}
 use Rattle.sheet_read.proofs.Places.{line-past}
 use Rattle.sheet_read.proofs.Fills.{line-fits, rest-fits, line-turn, line-end}
@@ -16,12 +16,12 @@ use Rattle.sheet_read.proofs.fill.fill_lines.Statement.{statement}
 use Rattle.sheet_read.proofs.fill.fill_lines.Tie as tie
 
 abbrev Inv-loop : tie.InvT-loop
-Inv-loop line text at n out₀ here₀ to₀ left₀ out here to left =
-    (laid out₀ 0 (numbers line (take n (lines (drop at text)))) ≡ laid out to (numbers line (take left (lines (drop here text)))))
+Inv-loop line text out₀ here₀ to₀ left₀ out here to left =
+    (laid out₀ 0 (numbers line (take left₀ (lines (drop here₀ text)))) ≡ laid out to (numbers line (take left (lines (drop here text)))))
     × Lead line left (lines (drop here text)) × (to + fieldCount line * left ≤ length out) × (length out ≡ length out₀)
 
 abbrev μ-loop : tie.MeasureT-loop
-μ-loop line text at n out₀ here₀ to₀ left₀ out here to left = left
+μ-loop line text out₀ here₀ to₀ left₀ out here to left = left
 
 abbrev start : tie.At-loop Inv-loop μ-loop → tie.Start Inv-loop μ-loop
 start c = c .before .before .before
@@ -104,6 +104,7 @@ same-length : tie.Need-same-length Inv-loop μ-loop
 same-length c = c .before .loop .inv .3
 
 returns : tie.Need-returns Inv-loop μ-loop
+unfolding numbersIn
 returns c = sym (c .before .loop .inv .0 ∙ line-end _ (c .before .loop .left) _ _ _ (c .loop-test .left))
 
 pub fill-lines-spec : {M : Type 1} → statement M

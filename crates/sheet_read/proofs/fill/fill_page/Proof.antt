@@ -7,10 +7,11 @@ use native.Mathlib.Omega.{arith}
 use lib.ListN.{length, drop}
 use borrow.Author.Needs.{needs}
 use Rattle.pages.proofs.Laws.{page-end}
-use Rattle.sheet.specs.Lines.{lines}
+use Rattle.sheet.specs.Lines.{lines, width}
 use Rattle.sheet.specs.Sheets.{slots}
 use Rattle.sheet.specs.Reading.{slotValue, slotBytes}
-use Rattle.sheet.specs.Buffers.{laid}
+use Rattle.numbers.specs.Buffers.{laid}
+use Rattle.sheet.specs.declared.line.Line.the-variants.{Word}
 use Rattle.sheet_read.specs.Scan.{slotCount}
 use Rattle.sheet_read.proofs.Stages.{counted-turn, counted-end, count-start, slot-end, count-turn, count-none, few-lines}
 use Rattle.sheet_read.proofs.Fills.{slot-start, slot-turn, slot-finish}
@@ -54,14 +55,14 @@ add-slot-value c =
 slot-value-requires : tie.Need-slot-value-requires Inv-loop μ-loop
 slot-value-requires c κs = search needs
 
-mul-put-value : tie.Need-mul-put-value Inv-loop μ-loop
-mul-put-value c = omega arith
+mul-store : tie.Need-mul-store Inv-loop μ-loop
+mul-store c = omega arith
 
-add-put-value : tie.Need-add-put-value Inv-loop μ-loop
-add-put-value c = omega arith
+add-store : tie.Need-add-store Inv-loop μ-loop
+add-store c = omega arith
 
-put-value-requires : tie.Need-put-value-requires Inv-loop μ-loop
-put-value-requires c κs = omega arith
+store-requires : tie.Need-store-requires Inv-loop μ-loop
+store-requires c κs = search needs
 
 line-count-requires : tie.Need-line-count-requires Inv-loop μ-loop
 line-count-requires c κs = search needs
@@ -80,17 +81,14 @@ few c =
     let after-slot-value = c .before .before .before .before .before in
     rw (c .line-count .ensures) (few-lines (after-slot-value .slot-value .result))
 
-past : (c : tie.After-line-count Inv-loop μ-loop) → loopAt c .loop .here + 41 * c .line-count .result ≤ length (text (loopAt c))
+past : (c : tie.After-line-count Inv-loop μ-loop) → loopAt c .loop .here + width Word * c .line-count .result ≤ length (text (loopAt c))
 past c = slot-end (text (loopAt c)) (loopAt c .loop .here) (base (loopAt c)) (loopAt c .loop .slot) _ _ (value-is c) (c .line-count .ensures) (loopAt c .loop .inv .2)
 
 add-n : tie.Need-add-n Inv-loop μ-loop
 add-n c = omega (arith, few c)
 
-mul-here : tie.Need-mul-here Inv-loop μ-loop
-mul-here c = omega (arith, few c)
-
-add-here : tie.Need-add-here Inv-loop μ-loop
-add-here c = omega (arith, past c)
+past-requires : tie.Need-past-requires Inv-loop μ-loop
+past-requires c κs = omega (arith, past c)
 
 add-slot : tie.Need-add-slot Inv-loop μ-loop
 add-slot c = omega arith
@@ -100,20 +98,24 @@ loop-less c = omega arith
 
 loop-again : tie.Need-loop-again Inv-loop μ-loop
 loop-again c =
-    let after-bytes = c .before .before in
-    let in-loop = after-bytes .before .before .before .before in (
-      counted-turn _ _ _ (loopAt c .loop .inv .0)
-          (count-turn (text (loopAt c)) (loopAt c .loop .here) (base (loopAt c)) (loopAt c .loop .slot) _ _ (value-is c) (c .line-count .ensures)
-          (in-loop .loop-test .taken)),
-      rw (after-bytes .before .put-value .ensures)
-          (loopAt c .loop .inv .1
-          ∙ slot-turn (text (loopAt c)) (loopAt c .loop .here) (base (loopAt c)) (loopAt c .loop .slot) _ _ (value-is c) (c .line-count .ensures)
-          (in-loop .loop-test .taken) (loopAt c .loop .bytes) (start (loopAt c) .args .at) (omega arith)),
-      past c,
-      omega (arith, few c),
+    let after-line-count = c .before in
+    let after-bytes = after-line-count .before .before in
+    let at-loop = loopAt after-line-count in
+    let in-loop = after-bytes .before .before .before .before in
+    rw (c .past .ensures)
+    ((
+      counted-turn _ _ _ (at-loop .loop .inv .0)
+          (count-turn (text at-loop) (at-loop .loop .here) (base at-loop) (at-loop .loop .slot) _ _ (value-is after-line-count)
+          (after-line-count .line-count .ensures) (in-loop .loop-test .taken)),
+      rw (after-bytes .before .store .ensures .1)
+          (at-loop .loop .inv .1
+          ∙ slot-turn (text at-loop) (at-loop .loop .here) (base at-loop) (at-loop .loop .slot) _ _ (value-is after-line-count)
+          (after-line-count .line-count .ensures) (in-loop .loop-test .taken) (at-loop .loop .bytes) (start at-loop .args .at) (omega arith)),
+      past after-line-count,
+      omega (arith, few after-line-count),
       omega arith,
-      after-bytes .bytes .given ∙ loopAt c .loop .inv .5,
-    )
+      after-bytes .bytes .given ∙ at-loop .loop .inv .5,
+    ))
 
 same-length : tie.Need-same-length Inv-loop μ-loop
 same-length c = c .before .loop .inv .5
@@ -137,13 +139,12 @@ fill-page-spec =
     mul-slot-value
     add-slot-value
     slot-value-requires
-    mul-put-value
-    add-put-value
-    put-value-requires
+    mul-store
+    add-store
+    store-requires
     line-count-requires
     add-n
-    mul-here
-    add-here
+    past-requires
     add-slot
     loop-less
     loop-again

@@ -1,14 +1,14 @@
 -- `scan_sheet` meets its contract: its tests are those of the definition. Assumes nothing.
-use Prim.Native.Nat.{ℕ}
 use mathlib.Core.Path.{_≡_, sym, _∙_}
 use mathlib.Core.Bool.{true}
 use mathlib.Core.List.{List}
-use borrow.Author.Needs.{needs}
+use Prim.Native.Nat.{ℕ}
+use native.Mathlib.Omega.{arith}
 use borrow.Author.Tests.{not-true, not-false}
-use Rattle.sheet.specs.Lines.{begins, form, lines}
-use Rattle.sheet.specs.Reading.{isHead, next}
+use Rattle.sheet.specs.Lines.{begins, form}
 use Rattle.sheet.specs.declared.line.Line.the-variants.{Sheet}
-use Rattle.sheet_read.proofs.Bodies.{no-sheet, other-version, good-version, no-state, headed}
+use Rattle.sheet_read.proofs.Bodies.{no-sheet, other-version, no-state, headed}
+use borrow.Author.Needs.{needs}
 use Rattle.sheet_read.proofs.scan.scan_sheet.Statement.{statement}
 use Rattle.sheet_read.proofs.scan.scan_sheet.Tie as tie
 
@@ -22,32 +22,38 @@ text c = c .before .before .args .text .now
 begun : (c : tie.Else1) → begins (form Sheet) (text (c .before)) ≡ true
 begun c = sym (c .before .stands .ensures) ∙ not-false _ (c .if1 .left)
 
-good : (c : tie.Else2) → isHead (next (lines (text (c .before .before .before)))) ≡ true
-good c = good-version (text (c .before .before .before)) (begun (c .before .before)) _ (c .before .number .ensures) (c .if2 .left)
-
 returns : tie.Need-returns
 returns c = no-sheet (text (c .before)) (sym (c .before .stands .ensures) ∙ not-true _ (c .if1 .taken))
 
-number-requires : tie.Need-number-requires
-number-requires c κs = search needs
+field-requires : tie.Need-field-requires
+field-requires c κs = (begun c, omega arith)
 
 returns-2 : tie.Need-returns-2
-returns-2 c = other-version (text (c .before .before .before)) (begun (c .before .before)) _ (c .before .number .ensures) (c .if2 .taken)
+returns-2 c =
+    let else1 = c .before .before in
+    other-version (text (else1 .before)) (begun else1) _ (c .before .field .ensures) (c .if2 .taken)
+
+width-requires : tie.Need-width-requires
+width-requires c κs = search needs
 
 stands-requires-2 : tie.Need-stands-requires-2
 stands-requires-2 c κs = search needs
 
 returns-3 : tie.Need-returns-3
 returns-3 c =
-    let else2 = c .before .before in
-    let after-stands = else2 .before .before .before in
-    no-state (text after-stands) (good else2) (sym (c .before .stands2 .ensures) ∙ not-true _ (c .if3 .taken))
+    let after-width = c .before .before in
+    let else2 = after-width .before in
+    let else1 = else2 .before .before in
+    no-state (text (else1 .before)) (begun else1) _ (else2 .before .field .ensures) (else2 .if2 .left) _ (after-width .width .ensures)
+    (sym (c .before .stands2 .ensures) ∙ not-true _ (c .if3 .taken))
 
 scan-body-requires : tie.Need-scan-body-requires
 scan-body-requires c κs =
-    let else2 = c .before .before in
-    let after-stands = else2 .before .before .before in
-    headed (text after-stands) (good else2) (sym (c .before .stands2 .ensures) ∙ not-false _ (c .if3 .left))
+    let after-width = c .before .before in
+    let else2 = after-width .before in
+    let else1 = else2 .before .before in
+    headed (text (else1 .before)) (begun else1) _ (else2 .before .field .ensures) (else2 .if2 .left) _ (after-width .width .ensures)
+    (sym (c .before .stands2 .ensures) ∙ not-false _ (c .if3 .left))
 
 returns-4 : tie.Need-returns-4
 returns-4 c = search needs
@@ -58,8 +64,9 @@ scan-sheet-spec =
     (tie.spec
     stands-requires
     returns
-    number-requires
+    field-requires
     returns-2
+    width-requires
     stands-requires-2
     returns-3
     scan-body-requires

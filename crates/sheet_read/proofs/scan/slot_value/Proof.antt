@@ -1,13 +1,12 @@
 -- `slot_value` meets its contract: the tests are those of the definition, but that for a value of 0, which answers 0 itself. Assumes nothing.
-use Prim.Native.Nat.{ℕ, _+_, _≤_}
+use Prim.Native.Nat.{ℕ}
 use mathlib.Core.Path.{_≡_, sym, _∙_}
 use mathlib.Core.Bool.{true}
 use mathlib.Core.List.{List}
 use native.Mathlib.Omega.{arith}
-use lib.ListN.{length, drop}
+use lib.ListN.{drop}
 use Rattle.sheet.specs.Lines.{begins, form}
 use Rattle.sheet.specs.declared.line.Line.the-variants.{Word}
-use Rattle.sheet_read.proofs.Places.{line-past}
 use Rattle.sheet_read.proofs.Stages.{slot-here, slot-there, slot-none}
 use borrow.Author.Needs.{needs}
 use borrow.Author.Tests.{not-true, not-false}
@@ -27,36 +26,27 @@ at c = c .before .before .args .at
 begun : (c : tie.Else1) → begins (form Word) (drop (at (c .before)) (text (c .before))) ≡ true
 begun c = sym (c .before .stands .ensures) ∙ not-false _ (c .if1 .left)
 
-past : (c : tie.Else1) → at (c .before) + 41 ≤ length (text (c .before))
-past c = line-past Word (text (c .before)) (at (c .before)) (begun c)
-
 returns : tie.Need-returns
 returns c = sym (slot-none (text (c .before)) (at (c .before)) _ (sym (c .before .stands .ensures) ∙ not-true _ (c .if1 .taken)))
 
-add-number : tie.Need-add-number
-add-number c = omega (arith, past c)
-
-number-requires : tie.Need-number-requires
-number-requires c κs = search needs
+field-requires : tie.Need-field-requires
+field-requires c κs = (begun c, omega arith)
 
 returns-2 : tie.Need-returns-2
 returns-2 c =
     let else1 = c .before .before in
-    sym (slot-there (text (else1 .before)) (at (else1 .before)) _ (begun else1) (λ e. c .if2 .taken (c .before .number .ensures ∙ e)))
+    sym (slot-there (text (else1 .before)) (at (else1 .before)) _ (begun else1) (λ e. c .if2 .taken (c .before .field .ensures ∙ e)))
 
-add-number-2 : tie.Need-add-number-2
-add-number-2 c = omega (arith, past (c .before .before))
-
-number-requires-2 : tie.Need-number-requires-2
-number-requires-2 c κs = search needs
+field-requires-2 : tie.Need-field-requires-2
+field-requires-2 c κs = (begun (c .before .before), omega arith)
 
 returns-3 : tie.Need-returns-3
 returns-3 c =
-    let after-number = c .before .before in
-    let after-stands = after-number .before .before in
-    c .number2 .ensures
-    ∙ sym (slot-here (text after-stands) (at after-stands) _ (begun (after-number .before))
-    (sym (after-number .number .ensures) ∙ c .before .if2 .left))
+    let after-field = c .before .before in
+    let after-stands = after-field .before .before in
+    c .field2 .ensures
+    ∙ sym (slot-here (text after-stands) (at after-stands) _ (begun (after-field .before))
+    (sym (after-field .field .ensures) ∙ c .before .if2 .left))
 
 pub slot-value-spec : {M : Type 1} → statement M
 slot-value-spec =
@@ -64,9 +54,7 @@ slot-value-spec =
     (tie.spec
     stands-requires
     returns
-    add-number
-    number-requires
+    field-requires
     returns-2
-    add-number-2
-    number-requires-2
+    field-requires-2
     returns-3)

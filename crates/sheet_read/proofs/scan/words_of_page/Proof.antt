@@ -6,8 +6,9 @@ use native.Mathlib.Omega.{arith}
 use lib.ListN.{length, drop}
 use borrow.Author.Needs.{needs}
 use Rattle.pages.proofs.Laws.{page-end}
-use Rattle.sheet.specs.Lines.{lines}
+use Rattle.sheet.specs.Lines.{lines, width}
 use Rattle.sheet.specs.Sheets.{slots}
+use Rattle.sheet.specs.declared.line.Line.the-variants.{Word}
 use Rattle.sheet_read.specs.Scan.{slotCount}
 use Rattle.sheet_read.proofs.Stages.{counted-turn, counted-end, count-start, slot-end, count-turn, count-none, few-lines}
 use Rattle.sheet_read.proofs.scan.words_of_page.Statement.{statement}
@@ -55,7 +56,7 @@ loopAt c = c .before .before .before
 few : (c : tie.After-line-count Inv-loop μ-loop) → c .line-count .result ≤ 1
 few c = rw (c .line-count .ensures) (few-lines (c .before .slot-value .result))
 
-past : (c : tie.After-line-count Inv-loop μ-loop) → loopAt c .loop .here + 41 * c .line-count .result ≤ length (text (loopAt c))
+past : (c : tie.After-line-count Inv-loop μ-loop) → loopAt c .loop .here + width Word * c .line-count .result ≤ length (text (loopAt c))
 past c =
     slot-end (text (loopAt c)) (loopAt c .loop .here) (base (loopAt c)) (loopAt c .loop .slot) _ _ (c .before .slot-value .ensures)
     (c .line-count .ensures) (loopAt c .loop .inv .1)
@@ -63,11 +64,8 @@ past c =
 add-n : tie.Need-add-n Inv-loop μ-loop
 add-n c = omega (arith, few c)
 
-mul-here : tie.Need-mul-here Inv-loop μ-loop
-mul-here c = omega (arith, few c)
-
-add-here : tie.Need-add-here Inv-loop μ-loop
-add-here c = omega (arith, past c)
+past-requires : tie.Need-past-requires Inv-loop μ-loop
+past-requires c κs = omega (arith, past c)
 
 add-slot : tie.Need-add-slot Inv-loop μ-loop
 add-slot c = omega arith
@@ -76,14 +74,18 @@ loop-less : tie.Need-loop-less Inv-loop μ-loop
 loop-less c = omega arith
 
 loop-again : tie.Need-loop-again Inv-loop μ-loop
-loop-again c = (
-  counted-turn _ _ _ (loopAt c .loop .inv .0)
-      (count-turn (text (loopAt c)) (loopAt c .loop .here) (base (loopAt c)) (loopAt c .loop .slot) _ _ (c .before .slot-value .ensures)
-      (c .line-count .ensures) (c .before .before .loop-test .taken)),
-  past c,
-  omega (arith, few c),
-  omega arith,
-)
+loop-again c =
+    let after-line-count = c .before in
+    let at-loop = loopAt after-line-count in
+    rw (c .past .ensures)
+    ((
+      counted-turn _ _ _ (at-loop .loop .inv .0)
+          (count-turn (text at-loop) (at-loop .loop .here) (base at-loop) (at-loop .loop .slot) _ _ (after-line-count .before .slot-value .ensures)
+          (after-line-count .line-count .ensures) (after-line-count .before .before .loop-test .taken)),
+      past after-line-count,
+      omega (arith, few after-line-count),
+      omega arith,
+    ))
 
 returns : tie.Need-returns Inv-loop μ-loop
 returns c =
@@ -102,8 +104,7 @@ words-of-page-spec =
     slot-value-requires
     line-count-requires
     add-n
-    mul-here
-    add-here
+    past-requires
     add-slot
     loop-less
     loop-again

@@ -4,12 +4,13 @@ use mathlib.Core.Path.{_≡_, sym, _∙_, ap}
 use mathlib.Core.List.{List}
 use native.Mathlib.Omega.{arith}
 use lib.ListN.{length}
+use Rattle.processor.specs.Layout.{goodState}
+use Rattle.instructions.specs.Instruction.{instructionWords}
 use Rattle.sheet.specs.Sheets.{text, savedOf}
 use Rattle.sheet.proofs.TestedLaws.{Passes, passes}
 use Rattle.sheet_write.specs.Laying.{textLength}
-use Rattle.sheet_write.specs.Writes.{goodState}
 use Rattle.sheet_write.proofs.Answers.{too-long, done}
-use Rattle.sheet_write.proofs.Apart.{lent, ten-fields}
+use Rattle.sheet_write.proofs.Apart.{lent, all-fields}
 use Rattle.sheet_write.proofs.Sizes.{nonzeros-most, text-size}
 use borrow.Author.Needs.{needs}
 use Rattle.sheet_write.proofs.text.print.Statement.{statement}
@@ -31,9 +32,9 @@ long c =
     let start = way-text-length c .start in
     let ready = tested start in
     c .text-length .ensures
-    ∙ ap (λ (values : ℕ). textLength (length (start .args .pages .now)) values (length (start .args .words .now) / 4)) (c .before .nonzero .ensures)
+    ∙ ap (λ (values : ℕ). textLength (length (start .args .pages .now)) values (length (start .args .words .now) / instructionWords)) (c .before .nonzero .ensures)
     ∙ sym (text-size (start .args .state .now) (start .args .pages .now) (start .args .bytes .now) (start .args .words .now)
-    (ten-fields _ (ready .state)) (ready .list .whole))
+    (all-fields _ (ready .state)) (ready .list .whole))
 
 nonzero-requires : tie.Need-nonzero-requires
 nonzero-requires c κs = search needs
@@ -57,7 +58,7 @@ lay-requires c κs =
     let ready = tested (way-text-length after-text-length .start) in
     let long-is = long after-text-length in
     let fits = c .before .if1 .left in
-    ((ten-fields _ (ready .state), lent _ _ (ready .list)), omega arith)
+    ((all-fields _ (ready .state), lent _ _ (ready .list)), omega arith)
 
 same-length : tie.Need-same-length
 same-length c = search needs

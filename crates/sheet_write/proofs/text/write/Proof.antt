@@ -2,7 +2,7 @@
 use mathlib.Core.Path.{_≡_, sym, _∙_}
 use lib.ListN.{length}
 use Rattle.replay.specs.Run.{checkBy}
-use Rattle.sheet_write.specs.Writes.{goodState}
+use Rattle.processor.specs.Layout.{goodState}
 use Rattle.sheet_write.proofs.Answers.{refused, passed}
 use borrow.Author.Needs.{needs}
 use Rattle.sheet_write.proofs.text.write.Statement.{statement}
