@@ -25,6 +25,13 @@ refusalNumber State = 5
 refusalNumber Instruction = 6
 refusalNumber Words = 7
 
+-- refusals that belong to no run: a result is longer than the buffer lent for it; a text is no sheet
+abbrev pub roomNumber : ℕ
+roomNumber = 8
+
+abbrev pub sheetNumber : ℕ
+sheetNumber = 9
+
 -- a fault: vector, error code, address
 abbrev pub faultOf : Vector → ℕ → ℕ → Fault
 faultOf vector code address = record { vector = vector; code = code; address = address }

@@ -38,6 +38,11 @@ pub enum Refusal {
     Words,
 }
 
+// The numbers of refusals that belong to no run: a result is longer than the buffer lent for it; a text is no sheet.
+pub const NO_ROOM: u64 = 8;
+
+pub const NO_SHEET: u64 = 9;
+
 // What an operation or a run answers.
 pub enum Answer {
     Completed,

@@ -4,6 +4,8 @@ mod faults;
 
 pub use answer::Answer;
 pub use answer::Fault;
+pub use answer::NO_ROOM;
+pub use answer::NO_SHEET;
 pub use answer::Refusal;
 pub use answer::Report;
 pub use answer::Vector;

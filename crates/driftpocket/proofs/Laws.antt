@@ -1,37 +1,91 @@
--- What the copies of words leave, and a bound on vectors. Assumes nothing.
-use Prim.Native.Nat.{ℕ, suc, _+_, _≤_, _<_}
-use mathlib.Core.List.{List, append-nil}
-use mathlib.Core.Path.{_≡_, _∙_, ap}
+-- The words of a state, the call as the code has it, and a bound on vectors. Assumes nothing.
+use Prim.Native.Nat.{ℕ, zero, suc, _+_, _≤_, _<_}
+use mathlib.Core.Bool.{Bool, false}
+use mathlib.Core.List.{List, [], _∷_}
+use mathlib.Core.Path.{_≡_, refl, sym, _∙_}
 use native.Mathlib.Omega.{arith}
-use lib.ListN.{length, getD, set, drop-of-length-le}
-use lib.Seq.{paste, paste-suc, length-paste, take-length}
+use lib.ListN.{length, getD, drop, drop-of-length-le}
+use lib.Seq.{drop-cons}
+use borrow.Author.Tests.{lt-ltb, le-ltb}
+use Rattle.numbers.specs.Buffers.{laidIf}
+use Rattle.numbers.proofs.Laws.{laid-if, laid-whole}
+use Rattle.pages.specs.Pages.{listing}
+use Rattle.pages.specs.declared.pages.Listing.{Listing}
+use Rattle.pages.specs.declared.pages.Listing.the-variants.{Valid, BadLength, BadKind, BadAddress, Repeated}
 use Rattle.answers.specs.Answer.{vectorNumber}
+use Rattle.answers.specs.declared.answer.Refusal.{Refusal}
+use Rattle.answers.specs.declared.answer.Refusal.the-variants.{Length, Kind, Address, Repeat, State as BadState}
 use Rattle.answers.specs.declared.answer.Vector.{Vector}
 use Rattle.answers.specs.declared.answer.Vector.the-variants.{InvalidOpcode, Stack, Protection, Page, Control}
-use Rattle.driftpocket.specs.Crossing.{over}
+use Rattle.processor.specs.State.{inRange}
+use Rattle.processor.specs.Layout.{fields, stateOf, formed, wordsOf}
+use Rattle.processor.specs.declared.state.State.{State}
+use Rattle.processor.specs.declared.layout.Formed.the-variants.{Whole, NoState}
+use Rattle.processor.proofs.Layouts.{formed-whole, formed-none, good-whole, good-none}
+use Rattle.replay.specs.Run.{inputOf, afterPages, checkBy, check, run, replayed}
+use Rattle.replay.specs.declared.steps.Tested.{Tested}
+use Rattle.replay.specs.declared.steps.Tested.the-variants.{Passed, Failed}
+use Rattle.driftpocket.specs.Crossing.{reportLength, Crossing, unreported, byTests, ran, crossed}
 
--- ---- a copy of the first i words
+-- ---- the words of a state
 
-module _ (words buffer : List ℕ) (room : length words ≤ length buffer) where
-  pub copied-length : (i : ℕ) → i ≤ length words → length (paste buffer 0 words i) ≡ length buffer
-  copied-length i h = length-paste buffer 0 words i (omega arith) h
+elements : List ℕ → ℕ → ℕ → List ℕ
+elements words i zero = []
+elements words i (suc n) = getD words i 0 ∷ elements words (suc i) n
 
-  -- one more
-  pub copied-turn : (i : ℕ) → i < length words → set (paste buffer 0 words i) i (getD words i 0) ≡ paste buffer 0 words (i + 1)
-  copied-turn i h =
-      let one : i + 1 ≡ suc i = omega arith in
-      let at : i ≡ 0 + i = omega arith in
-      rw one (ap (λ (n : ℕ). set (paste buffer 0 words i) n (getD words i 0)) at ∙ paste-suc buffer 0 words i 0 (omega arith) h)
+elements-rest : (words : List ℕ) (i n : ℕ) → i + n ≡ length words → elements words i n ≡ drop i words
+unfolding elements
+elements-rest words i zero e = sym (drop-of-length-le words {i = i} (omega arith))
+elements-rest words i (suc n) e = rw (drop-cons words i 0 (omega arith), elements-rest words (suc i) n (omega arith))
 
-  -- all of them
-  pub copied-all : paste buffer 0 words (length words) ≡ over words buffer
-  unfolding over
-  copied-all = let at : 0 + length words ≡ length words = omega arith in rw (take-length words, at)
+-- a state made of ten words has these words
+pub same-words : (words : List ℕ) → length words ≡ fields → wordsOf (stateOf words) ≡ words
+unfolding stateOf elements
+same-words words ten = elements-rest words 0 10 (omega arith)
 
--- a buffer of the same length holds the words and nothing else
-pub over-exactly : (words buffer : List ℕ) → length buffer ≡ length words → over words buffer ≡ words
-unfolding over
-over-exactly words buffer e = rw (drop-of-length-le buffer {i = length words} (omega arith)) (append-nil words)
+-- a buffer of ten words holds the words of the state that is written there
+pub written-words : (state : List ℕ) (start s : State) → formed state ≡ Whole start → laidIf state 0 (wordsOf s) ≡ wordsOf s
+written-words state start s whole =
+    let ten = formed-whole state start whole .0 in
+    laid-if state 0 (wordsOf s) (omega arith) ∙ laid-whole (wordsOf s) state ten
+
+-- ---- the call, as the code has it: with no state, with a report that is too short, and run
+
+-- the tests are not passed where there is no state
+fails : (found : Listing) → (refusal : Refusal) × (afterPages found (Failed BadState) ≡ Failed refusal)
+fails Valid = (BadState, refl)
+fails BadLength = (Length, refl)
+fails BadKind = (Kind, refl)
+fails BadAddress = (Address, refl)
+fails Repeated = (Repeat, refl)
+
+module _ (state pages bytes words report : List ℕ) where
+  abbrev tests : Bool → Tested
+  tests good = checkBy pages (length bytes) good (length words)
+
+  abbrev whole-run : Crossing
+  whole-run = ran report (replayed (inputOf (stateOf state) pages bytes words))
+
+  pub crossed-never : formed state ≡ NoState → byTests (tests false) state bytes report (unreported state bytes report) ≡ crossed state pages bytes words report
+  unfolding crossed checkBy
+  crossed-never none = rw (good-none state (formed-none state none), fails (listing pages (length bytes)) .1)
+
+  module _ (start : State) (whole : formed state ≡ Whole start) where
+    pub crossed-short : length report < reportLength
+        → byTests (tests (inRange start)) state bytes report (unreported state bytes report) ≡ crossed state pages bytes words report
+    unfolding crossed
+    crossed-short short = let (ten, same) = formed-whole state start whole in rw (same, good-whole state ten, lt-ltb _ _ short)
+
+    -- a run makes the tests itself, and leaves all as it was where they are not passed
+    pub crossed-run : reportLength ≤ length report → ran report (replayed (inputOf start pages bytes words)) ≡ crossed state pages bytes words report
+    unfolding crossed run check
+    crossed-run room =
+        let (ten, same) = formed-whole state start whole in
+        rw (same, good-whole state ten, le-ltb _ _ room) (go ten (tests (inRange (stateOf state))) refl)
+      where
+        go : length state ≡ fields → (tested : Tested) → tests (inRange (stateOf state)) ≡ tested → whole-run ≡ byTests tested state bytes report whole-run
+        go ten Passed e = refl
+        go ten (Failed refusal) e = rw (e, same-words state ten)
 
 -- ---- vectors
 

@@ -1,3 +1,3 @@
--- What the copies of words leave, and a bound on vectors.
+-- The words of a state, the call as the code has it, and a bound on vectors.
 
 mod Laws

@@ -1,14 +1,15 @@
 -- The layout of what crosses the C interface, and what a call leaves in every buffer. Assumes nothing.
 use Prim.Native.Nat.{ℕ, _+_}
-use mathlib.Core.Bool.{false, cond}
-use mathlib.Core.List.{List, [], _∷_, _++_}
-use lib.ListN.{length, drop}
-use lib.Dec.{eqb, ltb}
-use Rattle.answers.specs.Answer.{vectorNumber, refusalNumber, reportOf}
+use mathlib.Core.Bool.{cond}
+use mathlib.Core.List.{List, [], _∷_}
+use lib.ListN.{length}
+use lib.Dec.{ltb}
+use Rattle.numbers.specs.Buffers.{laidIf}
+use Rattle.answers.specs.Answer.{vectorNumber, refusalNumber, roomNumber, reportOf}
 use Rattle.answers.specs.declared.answer.Answer.{Answer}
 use Rattle.answers.specs.declared.answer.Answer.the-variants.{Completed, Refused, Faulted}
 use Rattle.answers.specs.declared.answer.Report.{Report}
-use Rattle.processor.specs.Layout.{fields, stateOf, wordsOf}
+use Rattle.processor.specs.Layout.{stateOf, goodState, wordsOf}
 use Rattle.replay.specs.Run.{Run, inputOf, checkBy, replayed}
 use Rattle.replay.specs.declared.steps.Tested.{Tested}
 use Rattle.replay.specs.declared.steps.Tested.the-variants.{Passed, Failed}
@@ -21,10 +22,6 @@ reportLength = 5
 
 abbrev pub reportWords : ℕ → Report → List ℕ
 reportWords count report = count ∷ report .refusal ∷ report .vector ∷ report .code ∷ report .address ∷ []
-
--- words written over the first of a buffer; what lies past them stays
-unfoldable pub over : List ℕ → List ℕ → List ℕ
-over words buffer = words ++ drop (length words) buffer
 
 -- ---- the call
 
@@ -41,23 +38,26 @@ pub record Crossing : Type 0 where
   pub bytes : List ℕ
   pub report : List ℕ
 
--- a call that has run, or was refused before its first step
+-- a call that has run, or was refused before its first step; a report that is too short stays as it was
 abbrev pub answered : List ℕ → List ℕ → List ℕ → ℕ → Answer → Crossing
-answered state bytes report count answer = record { number = numberOf answer; state = state; bytes = bytes; report = over (reportWords count (reportOf answer)) report }
+answered state bytes report count answer = record { number = numberOf answer; state = state; bytes = bytes; report = laidIf report 0 (reportWords count (reportOf answer)) }
 
 abbrev pub ran : List ℕ → Run → Crossing
 ran report r = answered (wordsOf (r .state)) (r .bytes) report (r .count) (r .answer)
 
--- what is tested before any step, as an answer
-abbrev pub testedAs : Tested → Answer
-testedAs Passed = Completed
-testedAs (Failed refusal) = Refused refusal
+-- refusal 8: nothing is run or written
+abbrev pub unreported : List ℕ → List ℕ → List ℕ → Crossing
+unreported state bytes report = record { number = roomNumber; state = state; bytes = bytes; report = report }
 
--- The whole call. A report that is too short gets number 8, and nothing is run or written. A state of another length is a state out of
--- range: refusal 5, in its turn.
+-- refused by the tests before any step, or whatever comes after them
+abbrev pub byTests : Tested → List ℕ → List ℕ → List ℕ → Crossing → Crossing
+byTests Passed state bytes report rest = rest
+byTests (Failed refusal) state bytes report rest = answered state bytes report 0 (Refused refusal)
+
+-- The whole call: refusals 1 to 5 and 7, where a state of another length is a state out of range; then 8, where the report is too short;
+-- then the run.
 unfoldable pub crossed : List ℕ → List ℕ → List ℕ → List ℕ → List ℕ → Crossing
 crossed state pages bytes words report =
-    cond (ltb (length report) reportLength) (record { number = 8; state = state; bytes = bytes; report = report })
-    (cond (eqb (length state) fields)
-    (ran report (replayed (inputOf (stateOf state) pages bytes words)))
-    (answered state bytes report 0 (testedAs (checkBy pages (length bytes) false (length words)))))
+    byTests (checkBy pages (length bytes) (goodState state) (length words)) state bytes report
+    (cond (ltb (length report) reportLength) (unreported state bytes report)
+    (ran report (replayed (inputOf (stateOf state) pages bytes words))))

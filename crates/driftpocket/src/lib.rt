@@ -1,57 +1,33 @@
 // The C interface: a whole run over lent words and bytes. Lengths travel with every buffer, so that a caller built against another
 // state gets a refusal and no stray write.
-ghost use Prim.Native.Nat.{_≤_};
-ghost use mathlib.Core.Bool.{false};
+ghost use Prim.Native.Nat.{ℕ};
+ghost use mathlib.Core.List.{List};
 ghost use mathlib.Core.Path.{_≡_};
-ghost use lib.ListN.{length};
-ghost use Rattle.driftpocket.specs.Crossing.{reportWords, over, numberOf as numberFor, testedAs, crossed};
-ghost use Rattle.processor.specs.Layout.{fields, wordsOf};
+ghost use Rattle.numbers.specs.Buffers.{laidIf};
 ghost use Rattle.answers.specs.Answer.{reportOf};
-ghost use Rattle.replay.specs.Run.{checkBy};
+ghost use Rattle.driftpocket.specs.Crossing.{reportWords, numberOf as numberFor, unreported, byTests, crossed};
+use answers::NO_ROOM;
+use numbers::copy_words;
 use processor::Answer;
-use processor::FIELDS;
-use processor::State;
+use processor::Formed;
 use replay::Tested;
 
 // How many words a report has.
 const REPORT: usize = 5;
 
-// What is returned where a report is too short.
-const TOO_SHORT: u64 = 8;
-
-// Copies words over the first of a buffer.
-fn copy(words: &[u64], buffer: &mut [u64])
-    requires { ⌜ length (now words) ≤ length (now buffer) ⌝ }
-    ensures { λ _. ⌜ now (buffer .exit) ≡ over (now (words .entry)) (now (buffer .entry)) ⌝ }
+// Writes the report, if it has room.
+fn write_report(done: usize, answer: Answer, report: &mut [u64])
+    ensures { λ _. ⌜ now (report .exit) ≡ laidIf (now (report .entry)) 0 (reportWords done (reportOf answer)) ⌝ }
 {
-    let mut i = 0;
-    while i < words.len() {
-        buffer[i] = words[i];
-        i += 1;
-    }
-}
-
-fn write_state(state: State, buffer: &mut [u64])
-    requires { ⌜ fields ≤ length (now buffer) ⌝ }
-    ensures { λ _. ⌜ now (buffer .exit) ≡ over (wordsOf state) (now (buffer .entry)) ⌝ }
-{
-    let words = state.words();
-    copy(&words, buffer);
-}
-
-fn write_report(done: usize, answer: Answer, buffer: &mut [u64])
-    requires { ⌜ 5 ≤ length (now buffer) ⌝ }
-    ensures { λ _. ⌜ now (buffer .exit) ≡ over (reportWords done (reportOf answer)) (now (buffer .entry)) ⌝ }
-{
-    let report = answer.report();
+    let numbers = answer.report();
     let words = [
         done as u64,
-        report.refusal,
-        report.vector,
-        report.code,
-        report.address,
+        numbers.refusal,
+        numbers.vector,
+        numbers.code,
+        numbers.address,
     ];
-    copy(&words, buffer);
+    copy_words(&words, report, 0);
 }
 
 // What is returned for an answer.
@@ -68,18 +44,22 @@ fn number(answer: Answer) -> u64
     }
 }
 
-// The answer to an input whose state has another length.
-fn no_state(pages: &[u64], lent: usize, words: usize) -> Answer
-    ensures { λ r. ⌜ r ≡ testedAs (checkBy (now (pages .entry)) lent false words) ⌝ }
+// A call that runs nothing: the refusal of the tests, or 8 where they are passed.
+fn refuse(tested: Tested, report: &mut [u64]) -> u64
+    ensures { λ r. ⌜ ((state bytes : List ℕ) → record { number = r; state = state; bytes = bytes; report = now (report .exit) } ≡ byTests tested state bytes (now (report .entry)) (unreported state bytes (now (report .entry)))) ⌝ }
 {
-    match replay::check(pages, lent, false, words) {
-        Tested::Passed => Answer::Completed,
-        Tested::Failed(refusal) => Answer::Refused(refusal),
+    match tested {
+        Tested::Failed(refusal) => {
+            write_report(0, Answer::Refused(refusal), report);
+            refusal.number()
+        }
+        Tested::Passed => NO_ROOM,
     }
 }
 
-// Runs a list of instructions: 0 completed; 1 to 7 the refusal; 256 + vector a fault; 8 where `report` is too short, and then nothing
-// was run or written. `state` holds ten words, in and out; `report` gets count, refusal, vector, error code and address.
+// Runs a list of instructions: 0 completed; 1 to 7 the refusal; 8 where it is not refused before its first step but `report` is too
+// short, and then nothing is run or written; 256 + vector a fault. `state` holds ten words, in and out; `report` gets count, refusal,
+// vector, error code and address.
 #[no_mangle]
 pub extern "C" fn driftpocket_run(
     state: &mut [u64],
@@ -90,17 +70,19 @@ pub extern "C" fn driftpocket_run(
 ) -> u64
     ensures { λ r. ⌜ record { number = r; state = now (state .exit); bytes = now (bytes .exit); report = now (report .exit) } ≡ crossed (now (state .entry)) (now (pages .entry)) (now (bytes .entry)) (now (words .entry)) (now (report .entry)) ⌝ }
 {
+    let Formed::Whole(start) = processor::state_of(state) else {
+        let tested = replay::check(pages, bytes.len(), false, words.len());
+        return refuse(tested, report);
+    };
     if report.len() < REPORT {
-        return TOO_SHORT;
+        let good = start.in_range();
+        let tested = replay::check(pages, bytes.len(), good, words.len());
+        return refuse(tested, report);
     }
-    if state.len() != FIELDS {
-        let answer = no_state(pages, bytes.len(), words.len());
-        write_report(0, answer, report);
-        return number(answer);
-    }
-    let replayed = replay::run(processor::state_of(state), pages, bytes, words);
+    let replayed = replay::run(start, pages, bytes, words);
     let answer = replayed.answer;
-    write_state(replayed.state, state);
+    let fields = replayed.state.words();
+    copy_words(&fields, state, 0);
     write_report(replayed.count, answer, report);
     number(answer)
 }

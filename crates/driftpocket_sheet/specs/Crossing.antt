@@ -3,10 +3,10 @@
 use Prim.Native.Nat.{ℕ}
 use mathlib.Core.Bool.{cond}
 use mathlib.Core.List.{List, [], _∷_}
-use lib.ListN.{length, getD}
-use lib.Dec.{ltb}
-use Rattle.answers.specs.Answer.{refusalNumber}
-use Rattle.sheet.specs.Buffers.{laid}
+use lib.ListN.{length}
+use lib.Dec.{eqb, ltb}
+use Rattle.numbers.specs.Buffers.{laid}
+use Rattle.answers.specs.Answer.{refusalNumber, roomNumber, sheetNumber}
 use Rattle.sheet_read.specs.Reads.{Buffers, Read, reads}
 use Rattle.sheet_read.specs.declared.buffers.Sizes.{Sizes}
 use Rattle.sheet_read.specs.declared.buffers.Reading.{Reading}
@@ -15,24 +15,49 @@ use Rattle.sheet_write.specs.Writes.{Written, writes}
 use Rattle.sheet_write.specs.declared.text.Writing.{Writing}
 use Rattle.sheet_write.specs.declared.text.Writing.the-variants.{Done as WriteDone, Refused as WriteRefused, TooLong as WriteTooLong}
 
+-- ---- numbers
+
+-- the refusal of a read, or 0
+abbrev pub readNumber : Reading → ℕ
+readNumber (ReadDone sizes) = 0
+readNumber (NoSheet line) = sheetNumber
+readNumber (ReadRefused refusal) = refusalNumber refusal
+readNumber (ReadTooLong sizes) = roomNumber
+
+-- the refusal of a write, or 0
+abbrev pub writeNumber : Writing → ℕ
+writeNumber (WriteDone long) = 0
+writeNumber (WriteRefused refusal) = refusalNumber refusal
+writeNumber (WriteTooLong long) = roomNumber
+
+-- what is returned with a report that is too short: the refusal, and 8 where there is none
+abbrev pub orNoRoom : ℕ → ℕ
+orNoRoom number = cond (eqb number 0) roomNumber number
+
 -- ---- reports
 
--- a refusal, or 0, with how many pages, bytes and words there are, or are needed
-abbrev pub sizedReport : ℕ → Sizes → List ℕ
-sizedReport refusal sizes = refusal ∷ 0 ∷ sizes .pages ∷ sizes .bytes ∷ sizes .words ∷ []
+-- how many pages, bytes and words there are, or are needed
+abbrev pub sizeWords : Sizes → List ℕ
+sizeWords sizes = sizes .pages ∷ sizes .bytes ∷ sizes .words ∷ []
 
--- a read: refusal, line, and the three sizes
+-- what a read's report says behind the refusal: a line, and the three sizes
+abbrev pub readFacts : Reading → List ℕ
+readFacts (ReadDone sizes) = 0 ∷ sizeWords sizes
+readFacts (NoSheet line) = line ∷ 0 ∷ 0 ∷ 0 ∷ []
+readFacts (ReadRefused refusal) = 0 ∷ 0 ∷ 0 ∷ 0 ∷ []
+readFacts (ReadTooLong sizes) = 0 ∷ sizeWords sizes
+
 abbrev pub readReport : Reading → List ℕ
-readReport (ReadDone sizes) = sizedReport 0 sizes
-readReport (NoSheet line) = 9 ∷ line ∷ 0 ∷ 0 ∷ 0 ∷ []
-readReport (ReadRefused refusal) = refusalNumber refusal ∷ 0 ∷ 0 ∷ 0 ∷ 0 ∷ []
-readReport (ReadTooLong sizes) = sizedReport 8 sizes
+readReport answer = readNumber answer ∷ readFacts answer
 
--- a write: refusal, and how long the text is, or would be
+-- and a write's: how long the text is, or would be
+abbrev pub writeFact : Writing → ℕ
+writeFact (WriteDone long) = long
+writeFact (WriteRefused refusal) = 0
+writeFact (WriteTooLong long) = long
+
 abbrev pub writeReport : Writing → List ℕ
-writeReport (WriteDone long) = 0 ∷ long ∷ []
-writeReport (WriteRefused refusal) = refusalNumber refusal ∷ 0 ∷ []
-writeReport (WriteTooLong long) = 8 ∷ long ∷ []
+writeReport answer = writeNumber answer ∷ writeFact answer ∷ []
 
 -- the words of each report
 abbrev pub readWords : ℕ
@@ -50,12 +75,12 @@ pub record ReadCrossing : Type 0 where
   pub report : List ℕ
 
 abbrev pub readBy : Read → List ℕ → ReadCrossing
-readBy r report = record { number = getD (readReport (r .answer)) 0 0; buffers = r .buffers; report = laid report 0 (readReport (r .answer)) }
+readBy r report = record { number = readNumber (r .answer); buffers = r .buffers; report = laid report 0 (readReport (r .answer)) }
 
--- A report that is too short gets number 8, and nothing else is done.
+-- A report that is too short comes last of all: it is refused where the read is not. Nothing is written then.
 unfoldable pub crossedRead : List ℕ → Buffers → List ℕ → ReadCrossing
 crossedRead text lent report =
-    cond (ltb (length report) readWords) (record { number = 8; buffers = lent; report = report })
+    cond (ltb (length report) readWords) (record { number = orNoRoom (readNumber (reads text lent .answer)); buffers = lent; report = report })
     (readBy (reads text lent) report)
 
 pub record WriteCrossing : Type 0 where
@@ -64,9 +89,10 @@ pub record WriteCrossing : Type 0 where
   pub report : List ℕ
 
 abbrev pub writtenBy : Written → List ℕ → WriteCrossing
-writtenBy w report = record { number = getD (writeReport (w .answer)) 0 0; text = w .text; report = laid report 0 (writeReport (w .answer)) }
+writtenBy w report = record { number = writeNumber (w .answer); text = w .text; report = laid report 0 (writeReport (w .answer)) }
 
+-- likewise
 unfoldable pub crossedWrite : List ℕ → List ℕ → List ℕ → List ℕ → List ℕ → List ℕ → WriteCrossing
 crossedWrite state pages bytes words text report =
-    cond (ltb (length report) writeWords) (record { number = 8; text = text; report = report })
+    cond (ltb (length report) writeWords) (record { number = orNoRoom (writeNumber (writes state pages bytes words text .answer)); text = text; report = report })
     (writtenBy (writes state pages bytes words text) report)

@@ -1,9 +1,11 @@
 // The C interface of sheets: read one into lent buffers, write one into a lent text. Lengths travel with every buffer.
 ghost use mathlib.Core.Path.{_≡_};
-ghost use Prim.Native.Nat.{_≤_};
-ghost use lib.ListN.{length};
-ghost use Rattle.sheet.specs.Buffers.{laid};
-ghost use Rattle.driftpocket_sheet.specs.Crossing.{sizedReport, readReport, writeReport, crossedRead, crossedWrite};
+ghost use mathlib.Core.List.{[], _∷_};
+ghost use Rattle.sheet_read.specs.Reads.{reads};
+ghost use Rattle.driftpocket_sheet.specs.Crossing.{orNoRoom, sizeWords, readReport, writeReport, crossedRead, crossedWrite};
+use answers::NO_ROOM;
+use answers::NO_SHEET;
+use numbers::copy_words;
 use sheet_read::Reading;
 use sheet_read::Sizes;
 use sheet_write::Writing;
@@ -13,24 +15,16 @@ const READ_REPORT: usize = 5;
 
 const WRITE_REPORT: usize = 2;
 
-// What is returned where a report is too short.
-const TOO_SHORT: u64 = 8;
-
-// Copies words over the first of a report.
-fn copy(words: &[u64], report: &mut [u64])
-    requires { ⌜ length (now words) ≤ length (now report) ⌝ }
-    ensures { λ _. ⌜ now (report .exit) ≡ laid (now (report .entry)) 0 (now (words .entry)) ⌝ }
+// What is returned with a report that is too short: the refusal, and 8 where there is none.
+fn or_no_room(number: u64) -> u64
+    ensures { λ r. ⌜ r ≡ orNoRoom number ⌝ }
 {
-    let mut i = 0;
-    while i < words.len() {
-        report[i] = words[i];
-        i += 1;
-    }
+    if number == 0 { NO_ROOM } else { number }
 }
 
 // A report with the sizes of a run.
-fn sized(refusal: u64, sizes: Sizes) -> [u64; 5]
-    ensures { λ r. ⌜ r ≡ sizedReport refusal sizes ⌝ }
+fn sized(refusal: u64, sizes: Sizes) -> [u64; READ_REPORT]
+    ensures { λ r. ⌜ r ≡ refusal ∷ 0 ∷ sizeWords sizes ⌝ }
 {
     let pages = sizes.pages as u64;
     let bytes = sizes.bytes as u64;
@@ -38,29 +32,40 @@ fn sized(refusal: u64, sizes: Sizes) -> [u64; 5]
     [refusal, 0, pages, bytes, words]
 }
 
-fn read_report(answer: Reading) -> [u64; 5]
+fn read_report(answer: Reading) -> [u64; READ_REPORT]
     ensures { λ r. ⌜ r ≡ readReport answer ⌝ }
 {
     match answer {
         Reading::Done(sizes) => sized(0, sizes),
-        Reading::NoSheet(line) => [9, line as u64, 0, 0, 0],
+        Reading::NoSheet(line) => [NO_SHEET, line as u64, 0, 0, 0],
         Reading::Refused(refusal) => [refusal.number(), 0, 0, 0, 0],
-        Reading::TooLong(sizes) => sized(8, sizes),
+        Reading::TooLong(sizes) => sized(NO_ROOM, sizes),
     }
 }
 
-fn write_report(answer: Writing) -> [u64; 2]
+fn write_report(answer: Writing) -> [u64; WRITE_REPORT]
     ensures { λ r. ⌜ r ≡ writeReport answer ⌝ }
 {
     match answer {
         Writing::Done(long) => [0, long as u64],
         Writing::Refused(refusal) => [refusal.number(), 0],
-        Writing::TooLong(long) => [8, long as u64],
+        Writing::TooLong(long) => [NO_ROOM, long as u64],
     }
 }
 
-// Reads a sheet: 0, or the refusal, 8 too where `report` is too short, and then nothing was done. `report` gets refusal, line, and the
-// numbers of pages, bytes and words.
+// The report of a read into empty buffers.
+fn read_nowhere(text: &[u8]) -> [u64; READ_REPORT]
+    ensures { λ r. ⌜ r ≡ readReport (reads (now (text .entry)) (record { state = []; pages = []; bytes = []; words = [] }) .answer) ⌝ }
+{
+    let mut state: [u64; 0] = [];
+    let mut pages: [u64; 0] = [];
+    let mut bytes: [u8; 0] = [];
+    let mut words: [u64; 0] = [];
+    read_report(sheet_read::read(text, &mut state, &mut pages, &mut bytes, &mut words))
+}
+
+// Reads a sheet: 0, or the refusal, 8 last of all, also where `report` is too short; then nothing is written. `report` gets refusal, line,
+// and the numbers of pages, bytes and words.
 #[no_mangle]
 pub extern "C" fn driftpocket_sheet_read(
     text: &[u8],
@@ -73,14 +78,15 @@ pub extern "C" fn driftpocket_sheet_read(
     ensures { λ r. ⌜ record { number = r; buffers = record { state = now (state .exit); pages = now (pages .exit); bytes = now (bytes .exit); words = now (words .exit) }; report = now (report .exit) } ≡ crossedRead (now (text .entry)) (record { state = now (state .entry); pages = now (pages .entry); bytes = now (bytes .entry); words = now (words .entry) }) (now (report .entry)) ⌝ }
 {
     if report.len() < READ_REPORT {
-        return TOO_SHORT;
+        return or_no_room(read_nowhere(text)[0]);
     }
     let numbers = read_report(sheet_read::read(text, state, pages, bytes, words));
-    copy(&numbers, report);
+    copy_words(&numbers, report, 0);
     numbers[0]
 }
 
-// Writes a sheet: 0, or the refusal, 8 too where `report` is too short, and then nothing was done. `report` gets refusal and length.
+// Writes a sheet: 0, or the refusal, 8 last of all, also where `report` is too short; then nothing is written. `report` gets refusal and
+// length.
 #[no_mangle]
 pub extern "C" fn driftpocket_sheet_write(
     state: &[u64],
@@ -93,9 +99,11 @@ pub extern "C" fn driftpocket_sheet_write(
     ensures { λ r. ⌜ record { number = r; text = now (text .exit); report = now (report .exit) } ≡ crossedWrite (now (state .entry)) (now (pages .entry)) (now (bytes .entry)) (now (words .entry)) (now (text .entry)) (now (report .entry)) ⌝ }
 {
     if report.len() < WRITE_REPORT {
-        return TOO_SHORT;
+        let mut nowhere: [u8; 0] = [];
+        let numbers = write_report(sheet_write::write(state, pages, bytes, words, &mut nowhere));
+        return or_no_room(numbers[0]);
     }
     let numbers = write_report(sheet_write::write(state, pages, bytes, words, text));
-    copy(&numbers, report);
+    copy_words(&numbers, report, 0);
     numbers[0]
 }

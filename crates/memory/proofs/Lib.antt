@@ -1,5 +1,6 @@
--- Laws that belong to no one function. The crates above cite `Laws` alone.
+-- Laws that belong to no one function. The crates above cite `Laws` alone; `promised` is the claims on one page, all of them.
 pub mod Laws
+pub mod Promised
 mod Cells
 mod Lookup
 mod OnePage

@@ -15,6 +15,7 @@ use Rattle.numbers.specs.Numbers.{byteCount}
 use Rattle.accesses.specs.Access.{andThen, scan, canonicalByte, listedByte, lookupOf, kindNumber, start, canonicalBytes, listedBytes, probe, byteIn, number, write, value, load, written, store}
 use Rattle.numbers.specs.Numbers.{numberAt, putAt}
 use Rattle.memory.specs.OnePage.{onePage, further, PageHolds, locatedIf, within, located, firstReach, firstLocated, quickly, onLentPage, storeAt}
+use Rattle.memory.specs.Promises.{FirstByteDecides, OnePageExactly}
 use Rattle.pages.specs.declared.address.Width.{Width}
 use Rattle.pages.specs.declared.address.Width.the-variants.{Bits32, Bits64}
 use Rattle.pages.specs.declared.pages.Spot.{Spot}
@@ -96,9 +97,7 @@ module _ (a : Access) (one : onePage (start a) (byteCount (a .size)) ≡ true) (
   address-further : plus (a .width) (start a) i ≡ start a + i
   address-further = no-wrap (start a) i on-its-page (a .width) (wrapped-start (a .width) (a .first))
 
--- The first byte's page, kind and place decide those of every byte of an access that lies on one page.
-pub first-byte-decides : (pages : List ℕ) (lent : ℕ) (a : Access) → onePage (start a) (byteCount (a .size)) ≡ true → (i : ℕ) → i < byteCount (a .size)
-    → (pageOf (plus (a .width) (start a) i) ≡ pageOf (start a)) × (spot pages lent (plus (a .width) (start a) i) ≡ further i (spot pages lent (start a)))
+pub first-byte-decides : FirstByteDecides
 first-byte-decides pages lent a one i among =
     let on = on-its-page a one i among in (
       ap pageOf (address-further a one i among) ∙ same-page (start a) i on,
@@ -111,8 +110,7 @@ unfolding pageOf plus
 runs-over Bits32 address n at some most over same = omega arith
 runs-over Bits64 address n at some most over same = omega arith
 
--- And `onePage` is no narrower than that: it holds of every access whose bytes all lie on the first one's page.
-pub one-page-exactly : (a : Access) → ((i : ℕ) → i < byteCount (a .size) → pageOf (plus (a .width) (start a) i) ≡ pageOf (start a)) → onePage (start a) (byteCount (a .size)) ≡ true
+pub one-page-exactly : OnePageExactly
 unfolding onePage
 one-page-exactly a same = go (leb (start a % pageBytes + byteCount (a .size)) pageBytes) refl
   where

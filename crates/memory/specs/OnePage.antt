@@ -1,6 +1,5 @@
--- Numbers whose bytes all lie on one page, where an access lies, and a number stored at a place. The theorem `first-byte-decides`
--- (proofs/OnePage.antt) is stated by `onePage` and `further`, the contract of `locate` by `located`, that of `store_at` by
--- `storeAt`. The others serve the contracts of private functions. Assumes nothing.
+-- Numbers whose bytes all lie on one page, where an access lies, and a number stored at a place. The claims of Promises are stated by
+-- `onePage` and `further`, the contract of `locate` by `located`, that of `store_at` by `storeAt`. The others serve the contracts of private functions. Assumes nothing.
 use Prim.Native.Nat.{ℕ, _+_, _-_, _/_, _%_, _≤_}
 use mathlib.Core.Bool.{Bool, true, cond, _&&_}
 use mathlib.Core.List.{List}
@@ -21,7 +20,7 @@ use Rattle.memory.specs.declared.one_page.Located.the-variants.{Within, 
 
 -- ---- where the bytes lie
 
--- n bytes, counting up from an address, all lie on its page: they end where the page ends, or before (the law `one-page-exactly`)
+-- n bytes, counting up from an address, all lie on its page: they end where the page ends, or before (the claim `OnePageExactly`)
 unfoldable pub onePage : ℕ → ℕ → Bool
 onePage address n = leb (address % pageBytes + n) pageBytes
 

@@ -9,7 +9,7 @@ use lib.ListN.{length, getD, take, drop, set, drop-of-length-le, length-append, 
 use lib.Seq.{length-take-le, take-at, drop-append-add, drop-drop, set-split, drop-cons, lt-length-set, getD-set-same, take-set-le, drop-set-lt}
 use Rattle.numbers.specs.Numbers.{inside, littleBytes, putAt}
 use Rattle.numbers.specs.Buffers.{laid, laidIf}
-use Rattle.numbers.proofs.Bytes.{ends-inside, lies-inside, little-length}
+use Rattle.numbers.proofs.Bytes.{ends-inside, lies-inside}
 
 pub length-laid : (out : List ℕ) (at : ℕ) (piece : List ℕ) → at + length piece ≤ length out → length (laid out at piece) ≡ length out
 unfolding laid

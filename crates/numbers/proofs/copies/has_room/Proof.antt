@@ -1,6 +1,5 @@
 -- `has_room` meets its contract: a place past the end, or the room behind it. Assumes nothing.
 use mathlib.Core.Path.{sym}
-use borrow.Author.Needs.{needs}
 use Rattle.numbers.proofs.Bytes.{past-end, room-left}
 use Rattle.numbers.proofs.copies.has_room.Statement.{statement}
 use Rattle.numbers.proofs.copies.has_room.Tie as tie

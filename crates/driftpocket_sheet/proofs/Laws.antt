@@ -1,0 +1,87 @@
+-- With a report that is too short a call's number does not depend on the buffers lent for its result, so that empty ones will do. And how
+-- long a report is. Assumes nothing.
+use Prim.Native.Nat.{ℕ, _≤_, _<_}
+use mathlib.Core.Bool.{Bool, true, false, cond}
+use mathlib.Core.List.{List, []}
+use mathlib.Core.Path.{_≡_, refl, sym, _∙_}
+use native.Mathlib.Omega.{arith}
+use lib.ListN.{length}
+use lib.Dec.{leb}
+use borrow.Author.Tests.{lt-ltb}
+use Rattle.numbers.specs.Buffers.{laid, laidIf}
+use Rattle.numbers.proofs.Laws.{laid-if}
+use Rattle.answers.specs.Answer.{roomNumber}
+use Rattle.replay.specs.Run.{checkBy}
+use Rattle.replay.specs.declared.steps.Tested.{Tested}
+use Rattle.replay.specs.declared.steps.Tested.the-variants.{Passed, Failed}
+use Rattle.sheet.specs.Sheets.{Saved, savedOf, text as textOf}
+use Rattle.sheet.specs.Reading.{Parsed, sheet, noSheet, parsed}
+use Rattle.sheet_read.specs.Reads.{Buffers, Read, byTest as readByTest, byText, delivered, fits, tested, reads}
+use Rattle.sheet_read.specs.declared.buffers.Reading.{Reading}
+use Rattle.sheet_read.specs.declared.buffers.Reading.the-variants.{Done as ReadDone, NoSheet, Refused as ReadRefused, TooLong as ReadTooLong}
+use Rattle.sheet_write.specs.Writes.{Written, byTest as writeByTest, goodState, printed, writes}
+use Rattle.sheet_write.specs.declared.text.Writing.{Writing}
+use Rattle.driftpocket_sheet.specs.Crossing.{readNumber, writeNumber, orNoRoom, readReport, writeReport, readWords, writeWords, crossedRead, crossedWrite}
+
+-- what holds of both ways holds
+either : {A : Type 0} (p : Bool) (a b : A) (P : A → Type 0) → P a → P b → P (cond p a b)
+either true a b P then else = then
+either false a b P then else = else
+
+any-buffers : (text : List ℕ) (lent other : Buffers) → orNoRoom (readNumber (reads text lent .answer)) ≡ orNoRoom (readNumber (reads text other .answer))
+unfolding reads
+any-buffers text lent other = parsed-so (parsed text)
+  where
+    -- done, or too long
+    passed-so : (s : Saved) (given : Buffers) → orNoRoom (readNumber (delivered s given .answer)) ≡ roomNumber
+    passed-so s given = either (fits s given) _ _ (λ (r : Read). orNoRoom (readNumber (r .answer)) ≡ roomNumber) refl refl
+
+    tested-so : (s : Saved) (t : Tested) → orNoRoom (readNumber (readByTest t s lent .answer)) ≡ orNoRoom (readNumber (readByTest t s other .answer))
+    tested-so s Passed = passed-so s lent ∙ sym (passed-so s other)
+    tested-so s (Failed refusal) = refl
+
+    parsed-so : (p : Parsed) → orNoRoom (readNumber (byText p lent .answer)) ≡ orNoRoom (readNumber (byText p other .answer))
+    parsed-so (sheet s) = tested-so s (tested s)
+    parsed-so (noSheet line) = refl
+
+any-text : (state pages bytes words out other : List ℕ)
+    → orNoRoom (writeNumber (writes state pages bytes words out .answer)) ≡ orNoRoom (writeNumber (writes state pages bytes words other .answer))
+unfolding writes printed
+any-text state pages bytes words out other = tested-so (checkBy pages (length bytes) (goodState state) (length words))
+  where
+    -- done, or too long
+    passed-so : (whole given : List ℕ) → orNoRoom (writeNumber (printed whole given .answer)) ≡ roomNumber
+    passed-so whole given = either (leb (length whole) (length given)) _ _ (λ (w : Written). orNoRoom (writeNumber (w .answer)) ≡ roomNumber) refl refl
+
+    tested-so : (t : Tested)
+        → orNoRoom (writeNumber (writeByTest t (textOf (savedOf state pages bytes words)) out .answer))
+        ≡ orNoRoom (writeNumber (writeByTest t (textOf (savedOf state pages bytes words)) other .answer))
+    tested-so Passed = passed-so (textOf (savedOf state pages bytes words)) out ∙ sym (passed-so (textOf (savedOf state pages bytes words)) other)
+    tested-so (Failed refusal) = refl
+
+-- ---- a report that is too short
+
+pub read-short : (text : List ℕ) (lent : Buffers) (report : List ℕ) → length report < readWords
+    → record { number = orNoRoom (readNumber (reads text (record { state = []; pages = []; bytes = []; words = [] }) .answer)); buffers = lent; report = report }
+    ≡ crossedRead text lent report
+unfolding crossedRead
+read-short text lent report short = rw (lt-ltb _ _ short, any-buffers text lent (record { state = []; pages = []; bytes = []; words = [] }))
+
+pub write-short : (state pages bytes words text report : List ℕ) → length report < writeWords
+    → record { number = orNoRoom (writeNumber (writes state pages bytes words [] .answer)); text = text; report = report } ≡ crossedWrite state pages bytes words text report
+unfolding crossedWrite
+write-short state pages bytes words text report short = rw (lt-ltb _ _ short, any-text state pages bytes words text [])
+
+-- ---- a report with room for all its words
+
+read-long : (answer : Reading) → length (readReport answer) ≡ readWords
+read-long (ReadDone sizes) = refl
+read-long (NoSheet line) = refl
+read-long (ReadRefused refusal) = refl
+read-long (ReadTooLong sizes) = refl
+
+pub read-room : (report : List ℕ) (answer : Reading) → readWords ≤ length report → laidIf report 0 (readReport answer) ≡ laid report 0 (readReport answer)
+read-room report answer room = let long = read-long answer in laid-if report 0 (readReport answer) (omega arith)
+
+pub write-room : (report : List ℕ) (answer : Writing) → writeWords ≤ length report → laidIf report 0 (writeReport answer) ≡ laid report 0 (writeReport answer)
+write-room report answer room = laid-if report 0 (writeReport answer) (omega arith)
