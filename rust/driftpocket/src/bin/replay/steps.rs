@@ -20,7 +20,7 @@ pub struct Step {
     pub before: State,
     /// The state after it.
     pub after: State,
-    /// What it loaded and stored, if it completed.
+    /// What it loaded and stored.
     pub accesses: Vec<Access>,
     /// How it ended.
     pub answer: Answer,
@@ -157,11 +157,7 @@ impl Walk {
         if outcome.count != usize::from(completed) {
             self.doubts.push(Doubt::Count(number));
         }
-        let accesses = if completed {
-            trace::of(instruction, &before, &pages)
-        } else {
-            Some(Vec::new())
-        };
+        let accesses = trace::of(instruction, &before, &pages);
         if !completed && (self.state != before || self.pages != pages) {
             self.doubts.push(Doubt::Changed(number));
         } else if !is_accounted(&accesses, &pages, &self.pages) {
