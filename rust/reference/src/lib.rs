@@ -19,6 +19,7 @@
 //! * [`operations`]: reading an instruction, refusal 6, the operations.
 //! * [`runs`]: whole runs, all refusals in their order, any input whatever.
 //! * [`sheet`]: run sheets read and written, refusals 8 and 9.
+//! * [`outcome`]: what comes of a sheet, as a text that can be run again.
 //! * [`script`]: scripts of commands, from bytes in to bytes out.
 //! * [`dice`]: numbers that look random.
 //! * [`random`]: memory scripts made by a seeded generator.
@@ -32,6 +33,7 @@ pub mod dice;
 pub mod fault;
 pub mod memory;
 pub mod operations;
+pub mod outcome;
 pub mod pages;
 pub mod processor;
 pub mod random;

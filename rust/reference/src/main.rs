@@ -3,21 +3,25 @@
 #![deny(missing_docs)]
 #![forbid(unsafe_code)]
 
-use driftpocket_reference::{random, random_operations, script};
+use driftpocket_reference::{outcome, random, random_operations, script};
 use std::io::{self, BufWriter, Read, Write};
 use std::process::ExitCode;
 
 /// What is written when the arguments are not understood.
 const USAGE: &str = "\
-usage: reference memory < SCRIPT
+usage: reference outcome < SHEET
+       reference memory < SCRIPT
        reference random SEED COUNT
        reference random-operations SEED COUNT
+outcome runs a sheet and writes what came of it.
 memory answers a script, of memory and of operations alike.
 random writes a script of COUNT lines about memory, random-operations one
 about operations; SEED and COUNT are decimal.";
 
 /// What the arguments ask for.
 enum Task {
+    /// Run the sheet on standard input.
+    Outcome,
     /// Answer the script on standard input.
     Memory,
     /// Write a random script about memory.
@@ -47,6 +51,7 @@ fn main() -> ExitCode {
 /// Understands the arguments.
 fn read_task(words: &[String]) -> Option<Task> {
     match words {
+        [word] if word == "outcome" => Some(Task::Outcome),
         [word] if word == "memory" => Some(Task::Memory),
         [word, seed, count] if word == "random" => Some(Task::Random {
             seed: read_decimal(seed)?,
@@ -70,7 +75,11 @@ fn read_decimal(word: &str) -> Option<u64> {
 fn carry_out(task: &Task) -> io::Result<()> {
     let mut output = BufWriter::new(io::stdout().lock());
     match *task {
-        Task::Memory => output.write_all(&script::run(&read_input()?))?,
+        Task::Outcome => {
+            let text = read_input(outcome::LONGEST_TEXT)?;
+            output.write_all(outcome::outcome(&text).as_bytes())?;
+        }
+        Task::Memory => output.write_all(&script::run(&read_input(script::LONGEST_INPUT)?))?,
         Task::Random { seed, count } => {
             let mut author = random::Author::new(seed);
             write_lines(&mut output, count, || author.line())?;
@@ -96,9 +105,9 @@ fn write_lines(
 }
 
 /// Reads standard input, and one byte past the longest allowed at most.
-fn read_input() -> io::Result<Vec<u8>> {
+fn read_input(longest: usize) -> io::Result<Vec<u8>> {
     let mut input = Vec::new();
-    let most = script::LONGEST_INPUT as u64 + 1;
+    let most = longest as u64 + 1;
     io::stdin().lock().take(most).read_to_end(&mut input)?;
     Ok(input)
 }
