@@ -20,10 +20,7 @@
 //! * [`runs`]: whole runs, all refusals in their order, any input whatever.
 //! * [`sheet`]: run sheets read and written, refusals 8 and 9.
 //! * [`outcome`]: what comes of a sheet, as a text that can be run again.
-//! * [`script`]: scripts of commands, from bytes in to bytes out.
-//! * [`dice`]: numbers that look random.
-//! * [`random`]: memory scripts made by a seeded generator.
-//! * [`random_operations`]: the same with states and operations.
+//! * [`dice`]: numbers that look random, for programs that compare.
 
 #![deny(missing_docs)]
 #![forbid(unsafe_code)]
@@ -36,9 +33,6 @@ pub mod operations;
 pub mod outcome;
 pub mod pages;
 pub mod processor;
-pub mod random;
-pub mod random_operations;
 pub mod runs;
-pub mod script;
 pub mod sheet;
 pub mod transaction;
