@@ -48,9 +48,10 @@ pub(crate) struct Sheet {
 ///
 /// The report gets the refusal or 0, the number of the line that makes the text
 /// no sheet or 0, and the numbers of page entries, bytes and words of the result:
-/// also if it is longer than a buffer, but 0 after any other refusal. With fewer
-/// than five words of report the answer is 8, and nothing is done. A refusal
-/// touches the report only; past a result every buffer stays as it is.
+/// also if it is longer than a buffer, but 0 after any other refusal. A refusal
+/// touches the report only, and a report of fewer than five words is not touched
+/// either: it is too short, refusal 8, if nothing else is wrong. Past a result
+/// every buffer stays as it is.
 pub fn read_sheet(
     text: &[u8],
     state: &mut [u64],
@@ -59,9 +60,6 @@ pub fn read_sheet(
     words: &mut [u64],
     report: &mut [u64],
 ) -> u64 {
-    let Some(report) = report.first_chunk_mut::<READ_REPORT>() else {
-        return NO_ROOM;
-    };
     let sheet = match Sheet::read(text) {
         Ok(sheet) => sheet,
         Err(line) => return say(report, [NO_SHEET, line, 0, 0, 0]),
@@ -71,7 +69,8 @@ pub fn read_sheet(
     }
     let (listed, held, listing) = (sheet.entries(), sheet.bytes(), sheet.list.as_flattened());
     let counts = [listed.len(), held.len(), listing.len()];
-    let fits = state.len() >= FIELDS
+    let fits = report.len() >= READ_REPORT
+        && state.len() >= FIELDS
         && pages.len() >= listed.len()
         && bytes.len() >= held.len()
         && words.len() >= listing.len();
@@ -89,9 +88,10 @@ pub fn read_sheet(
 /// Writes a run as a sheet into a lent buffer.
 ///
 /// The report gets the refusal or 0, and the length of the text: also if it is
-/// longer than the buffer, but 0 after any other refusal. With fewer than two
-/// words of report the answer is 8, and nothing is done. A refusal touches the
-/// report only; past the text the buffer stays as it is.
+/// longer than the buffer, but 0 after any other refusal. A refusal touches the
+/// report only, and a report of fewer than two words is not touched either: it is
+/// too short, refusal 8, if nothing else is wrong. Past the text the buffer stays
+/// as it is.
 pub fn write_sheet(
     state: &[u64],
     pages: &[u64],
@@ -100,24 +100,24 @@ pub fn write_sheet(
     text: &mut [u8],
     report: &mut [u64],
 ) -> u64 {
-    let Some(report) = report.first_chunk_mut::<WRITE_REPORT>() else {
-        return NO_ROOM;
-    };
     let printed = match Sheet::gather(state, pages, bytes, words) {
         Ok(sheet) => sheet.print(),
         Err(refusal) => return say(report, [refusal, 0]),
     };
     let length = printed.len() as u64;
-    if printed.len() > text.len() {
+    if report.len() < WRITE_REPORT || text.len() < printed.len() {
         return say(report, [NO_ROOM, length]);
     }
     lay(text, printed.as_bytes());
     say(report, [0, length])
 }
 
-/// Writes a report, of which the first word is also what comes back.
-fn say<const COUNT: usize>(report: &mut [u64; COUNT], words: [u64; COUNT]) -> u64 {
-    *report = words;
+/// Writes a report if there is room for it. Its first word is also what comes
+/// back.
+fn say<const COUNT: usize>(report: &mut [u64], words: [u64; COUNT]) -> u64 {
+    if let Some(report) = report.first_chunk_mut() {
+        *report = words;
+    }
     words[0]
 }
 
