@@ -14,15 +14,6 @@ pub enum Size {
 }
 
 impl Size {
-    /// The size that is written as the number 4 or 8.
-    pub fn from_number(number: u64) -> Option<Size> {
-        match number {
-            4 => Some(Size::Four),
-            8 => Some(Size::Eight),
-            _ => None,
-        }
-    }
-
     /// The number of bytes.
     pub fn bytes(self) -> i128 {
         match self {
