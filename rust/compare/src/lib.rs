@@ -10,8 +10,7 @@
 //! * [`difference`]: two sightings side by side, and only what differs.
 //! * [`damage`]: ways to spoil an input so that it is refused.
 //! * [`rows`]: cases with what must come of them, written out by hand.
-//! * [`worked`]: the worked cases P1 to P19 of the rules.
-//! * [`worked_returns`]: those of RET and WRUSS, R1 to R17.
+//! * [`stored`]: the stored sheets, the worked cases of the rules among them.
 //! * [`edges`]: limits of lists, lengths, pointers and targets.
 //! * [`tokens`]: tokens that are just right and just wrong.
 //! * [`calls_of_next`]: calls of the next line, relative and absolute.
@@ -49,9 +48,8 @@ pub mod returns;
 pub mod rounds;
 pub mod rows;
 pub mod sheets;
+pub mod stored;
 pub mod table;
 pub mod tokens;
 pub mod user_writes;
-pub mod worked;
-pub mod worked_returns;
 pub mod world;

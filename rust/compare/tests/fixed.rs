@@ -3,7 +3,6 @@
 
 use driftpocket_compare::rows::{Row, check_all};
 use driftpocket_compare::{calls_of_next, edges, refusals, returns, tokens, user_writes};
-use driftpocket_compare::{worked, worked_returns};
 
 /// Checks rows, of which there must be so many at least.
 fn check(rows: &[Row], least: usize) {
@@ -11,29 +10,6 @@ fn check(rows: &[Row], least: usize) {
         panic!("{text}");
     }
     assert!(rows.len() >= least, "only {} rows", rows.len());
-}
-
-/// Each worked case is there: this letter with each number up to the last.
-fn name_all(rows: &[Row], letter: char, last: u64) {
-    for number in 1..=last {
-        let name = format!("{letter}{number}");
-        let is_it = |row: &Row| row.name.split(',').next() == Some(&name);
-        assert!(rows.iter().any(is_it), "{name} is there");
-    }
-}
-
-#[test]
-fn worked_cases() {
-    let rows = worked::rows();
-    check(&rows, 21);
-    name_all(&rows, 'P', 15);
-}
-
-#[test]
-fn worked_cases_of_returns_and_user_writes() {
-    let rows = worked_returns::rows();
-    check(&rows, 24);
-    name_all(&rows, 'R', 17);
 }
 
 #[test]
