@@ -5,8 +5,7 @@ use driftpocket_compare::page_ends::layout::MIDDLES;
 use driftpocket_compare::rows::{Row, check_all, check_each};
 use driftpocket_compare::sheets::LIBRARY;
 use driftpocket_compare::stored::{self, Stored};
-use driftpocket_compare::user_writes;
-use driftpocket_compare::{calls_of_next, edges, page_ends, refusals, returns, rounds, tokens};
+use driftpocket_compare::{edges, operations, page_ends, refusals, rounds};
 use std::collections::BTreeSet;
 use wrong::searches::{self, Search};
 
@@ -48,15 +47,7 @@ fn a_difference_can_be_rerun_and_shows_only_what_differs() {
 
 #[test]
 fn fixed_cases_and_stored_sheets_notice_every_wrong_part() {
-    let rows = [
-        edges::rows(),
-        tokens::rows(),
-        calls_of_next::rows(),
-        returns::rows(),
-        user_writes::rows(),
-        refusals::rows(),
-    ]
-    .concat();
+    let rows = [edges::rows(), operations::rows(), refusals::rows()].concat();
     let stored = stored::all().unwrap();
     // Wrong searches are for the ends of pages, below.
     let is_search = |name: &str| searches::ALL.iter().any(|(other, _)| *other == name);
@@ -102,9 +93,9 @@ fn p14_and_p15_alone_notice_known_mistakes() {
 }
 
 #[test]
-fn calls_of_the_next_line_notice_all_mistakes_about_them() {
-    let rows = calls_of_next::rows();
-    for (name, part) in wrong::CALLS_OF_NEXT {
+fn rows_about_calls_notice_all_mistakes_about_them() {
+    let rows = operations::call::rows();
+    for (name, part) in wrong::CALLS {
         assert!(check_all(*part, &rows).is_err(), "{name}");
     }
 }

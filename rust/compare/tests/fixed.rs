@@ -1,8 +1,9 @@
 //! Cases whose outcome is written out by hand: by hand, by the second program
 //! and by the library it is the same.
 
+use driftpocket_compare::operations::{call, incssp, ret, rstorssp, saveprevssp, wrss, wruss};
 use driftpocket_compare::rows::{Row, check_all};
-use driftpocket_compare::{calls_of_next, edges, refusals, returns, tokens, user_writes};
+use driftpocket_compare::{edges, refusals};
 
 /// Checks rows, of which there must be so many at least.
 fn check(rows: &[Row], least: usize) {
@@ -13,28 +14,19 @@ fn check(rows: &[Row], least: usize) {
 }
 
 #[test]
-fn edges_of_lists_lengths_pointers_and_targets() {
-    check(&edges::rows(), 79);
+fn edges_of_lists_lengths_and_reports() {
+    check(&edges::rows(), 34);
 }
 
 #[test]
-fn tokens_just_right_and_just_wrong() {
-    check(&tokens::rows(), 47);
-}
-
-#[test]
-fn calls_of_the_next_line() {
-    check(&calls_of_next::rows(), 860);
-}
-
-#[test]
-fn returns_that_match_and_returns_that_do_not() {
-    check(&returns::rows(), 193);
-}
-
-#[test]
-fn writes_for_user_code() {
-    check(&user_writes::rows(), 324);
+fn the_operations() {
+    check(&incssp::rows(), 6);
+    check(&rstorssp::rows(), 30);
+    check(&saveprevssp::rows(), 25);
+    check(&wrss::rows(), 2);
+    check(&wruss::rows(), 326);
+    check(&call::rows(), 885);
+    check(&ret::rows(), 195);
 }
 
 #[test]

@@ -1,8 +1,14 @@
 //! Near RET: what it pops, what it compares, what it checks, and in which order.
 
-use crate::answer::{Answer, GP, SS};
+use super::real_mode;
+use crate::answer::{Answer, CP, GP, SS};
 use crate::case::{Case, FOUR_GIB, field};
+use crate::page_ends::layout::cut;
+use crate::page_ends::trials::{LENGTH, NARROW, Spot};
+use crate::page_ends::{Deed, Trial};
 use crate::rows::{Row, plain};
+use crate::table::{Law, law};
+use driftpocket_reference::dice::Dice;
 
 /// The return address of most cases.
 const TARGET: u64 = 0x1234;
@@ -19,6 +25,9 @@ const LAST_PAGE: u64 = 0xffff_ffff_ffff_f000;
 
 /// RET without a count.
 const RET: [u64; 4] = [9, 1, 0, 0];
+
+/// How many bytes a RET at the end of a page drops besides, if it has a count.
+const DROPPED: u64 = 0x1235;
 
 /// RET that drops so many bytes.
 fn dropping(count: u64) -> [u64; 4] {
@@ -57,9 +66,10 @@ fn returned(name: impl Into<String>, case: Case, target: u64, count: u64) -> Row
         .field(field::SSP, ssp)
 }
 
-/// All of them.
+/// All rows.
 pub fn rows() -> Vec<Row> {
     [
+        in_real_mode(),
         counts(),
         without_shadow_stacks(),
         levels(),
@@ -78,6 +88,13 @@ pub fn rows() -> Vec<Row> {
         many(),
     ]
     .concat()
+}
+
+/// Mode 0: refusal 6.
+fn in_real_mode() -> Vec<Row> {
+    [9, 10]
+        .map(|code| real_mode(code, 0, 0, Answer::refusal(6)))
+        .into()
 }
 
 /// Counts of bytes up to the largest, and the first that is too large.
@@ -585,4 +602,50 @@ fn many() -> Vec<Row> {
     row = row.field(field::IP, 0x40_0000 + 5 * 512);
     let last = 0x40_0000 + 5 * 512;
     vec![row.bytes::<8>(0x5008, last).bytes::<8>(0x1fe8, last)]
+}
+
+/// Answers that it does not give.
+pub(crate) const LAWS: &[Law] = &[law("not enabled, RET compares nothing", |cell| {
+    !cell.is_enabled() && cell.is_return() && cell.vector() == Some(CP)
+})];
+
+/// How many bytes a return drops.
+pub(crate) fn byte_count(dice: &mut Dice) -> u64 {
+    let any = dice.below(1 << 16);
+    match dice.below(40) {
+        0 => 1 << 16,
+        1 => any << 1,
+        2 => 0xffff,
+        3 => any,
+        4..8 => dice.below(40),
+        _ => 4 * dice.below(6),
+    }
+}
+
+impl Spot {
+    /// RET in both forms, the pop at the spot being the ordinary one or that
+    /// off the shadow stack. Both stacks hold the same, so that a byte from a
+    /// wrong place makes them differ.
+    pub(crate) fn returns(self) -> Vec<Trial> {
+        let targets = if self.mode == 1 {
+            [NARROW, 0xcdef_abba]
+        } else {
+            [0x0000_6655_4433_2211, 0xffff_9876_5432_1043]
+        };
+        let forms = [[9, LENGTH, 0, 0], [10, LENGTH, DROPPED, 0]];
+        let mut trials = Vec::new();
+        for (words, target) in forms.into_iter().zip(targets) {
+            let back = |sp: u64, ssp: u64| {
+                let popped = sp.wrapping_add(self.size() + words[2]);
+                self.frames(words, sp, ssp, Deed::Load(Some(target)))
+                    .with(field::SP, sp)
+                    .with(field::SSP, ssp)
+                    .sets(field::IP, target)
+                    .sets(field::SP, cut(self.mode, popped))
+                    .sets(field::SSP, self.after(ssp))
+            };
+            trials.extend(self.on_either_stack(back));
+        }
+        trials
+    }
 }

@@ -1,7 +1,7 @@
-//! Parts that are wrong about calls of the next line.
+//! Parts that are wrong about CALL, most of them about calls of the next line.
 
-use super::{Named, Step, step_by_step};
-use driftpocket_compare::answer::GP;
+use super::{Named, Step, right, step_by_step};
+use driftpocket_compare::answer::{GP, PF};
 use driftpocket_compare::case::field;
 
 /// Where the next line is.
@@ -32,6 +32,14 @@ fn spare(step: &mut Step) {
     step.redo(&off, step.pages, step.words);
     step.state[field::CET] = step.before[field::CET];
 }
+
+wrong_step!(leaves_the_ordinary_push, |step| {
+    if matches!(step.code(), 7 | 8) && step.report[2] == PF {
+        let mut state = step.before.clone();
+        state[field::CET] = 0;
+        right(&mut state, step.pages, step.bytes, step.words, &mut [0; 5]);
+    }
+});
 
 wrong_step!(pushes_for_every_call, |step| {
     if is_spared(step) {
@@ -129,6 +137,7 @@ wrong_step!(forgets_the_code_limit, |step| {
 
 /// All of them with their names.
 pub const ALL: &[Named] = &[
+    ("leaves the ordinary push", leaves_the_ordinary_push),
     ("pushes for every call", pushes_for_every_call),
     ("pushes for the next line in mode 1", pushes_in_mode_1),
     ("pushes for the next line in mode 2", pushes_in_mode_2),

@@ -1,14 +1,21 @@
-//! Calls of the next line. Written relatively, with a displacement of 0, they
-//! have nothing to do with the shadow stack; written absolutely they push on it
-//! as every other call.
+//! Near CALL: what it pushes and where to it goes.
 //!
-//! Both forms are tried from the same states, at every level of both modes that
-//! have calls. Page 1000 is for shadow stacks of the level, page 2000 for those
-//! of the other levels, page 5000 is ordinary.
+//! Most rows are about calls of the next line. Written relatively, with a
+//! displacement of 0, they have nothing to do with the shadow stack; written
+//! absolutely they push on it as every other call. Both forms are tried from the
+//! same states, at every level of both modes that have calls. Page 1000 is for
+//! shadow stacks of the level, page 2000 for those of the other levels, page 5000
+//! is ordinary.
 
+use super::real_mode;
 use crate::answer::{Answer, GP, SS};
 use crate::case::{Case, FOUR_GIB, field};
+use crate::page_ends::layout::{ORDINARY, SAFE_ORDINARY, SAFE_SHADOW};
+use crate::page_ends::trials::{LENGTH, NARROW, Spot};
+use crate::page_ends::{Deed, Trial};
 use crate::rows::{Row, plain};
+use crate::world::{LANDMARKS, World};
+use driftpocket_reference::dice::Dice;
 
 /// The two forms.
 const RELATIVE: [u64; 4] = [7, 5, 0, 0];
@@ -16,6 +23,9 @@ const ABSOLUTE: [u64; 4] = [8, 5, NEXT, 0];
 
 /// Where the next line is.
 const NEXT: u64 = 0x40_0005;
+
+/// The code limit of calls that are tried at it.
+const LIMIT: u64 = 0x40_1000;
 
 /// RET without a count.
 const RET: [u64; 4] = [9, 1, 0, 0];
@@ -33,8 +43,140 @@ struct Place {
     cpl: u64,
 }
 
-/// All of them.
+/// All rows.
 pub fn rows() -> Vec<Row> {
+    [
+        in_real_mode(),
+        many_calls(),
+        narrow_pointers(),
+        narrow_stacks(),
+        targets(),
+        calls_of_next(),
+    ]
+    .concat()
+}
+
+/// Mode 0: refusal 6.
+fn in_real_mode() -> Vec<Row> {
+    [7, 8]
+        .map(|code| real_mode(code, 0, 0, Answer::refusal(6)))
+        .into()
+}
+
+/// 512 calls that fill the ordinary page, an element dropped after each.
+fn many_calls() -> Vec<Row> {
+    let pair = [[7, 5, 0x10, 0], [2, 4, 0, 1]];
+    let step = 5 + 0x10 + 4;
+    let case = plain(&[pair; 512].concat()).with(field::SP, 0x6000);
+    let mut row = Row::completes("512 calls", case)
+        .field(field::IP, 0x40_0000 + step * 512)
+        .field(field::SP, 0x5000)
+        .bytes::<8>(0x1fe8, 0x40_0000 + step * 511 + 5);
+    for call in 0..512 {
+        row = row.bytes::<8>(0x6000 - 8 * (call + 1), 0x40_0000 + step * call + 5);
+    }
+    vec![row]
+}
+
+/// A plain case in 32-bit mode.
+fn narrow(instructions: &[[u64; 4]]) -> Case {
+    plain(instructions).with(field::MODE, 1)
+}
+
+/// Mode 1 with SSP 2^32 - 4.
+fn narrow_pointers() -> Vec<Row> {
+    let top = narrow(&[ABSOLUTE])
+        .on(&[0xffff_f001, 0x5003])
+        .with(field::SSP, FOUR_GIB - 4);
+    vec![
+        Row::completes("mode 1, SSP 2^32 - 4, call", top)
+            .field(field::SP, 0x500c)
+            .field(field::SSP, FOUR_GIB - 8)
+            .bytes::<4>(0x500c, NEXT)
+            .bytes::<4>(FOUR_GIB - 8, NEXT),
+    ]
+}
+
+/// Pushes below 0 in mode 1.
+fn narrow_stacks() -> Vec<Row> {
+    let case = |sp, ssp| {
+        narrow(&[ABSOLUTE])
+            .on(&[0x1001, 0xffff_f003])
+            .with(field::SP, sp)
+            .with(field::SSP, ssp)
+    };
+    let pushed = Row::completes("mode 1, SP 0", case(0, 0x1010))
+        .field(field::SP, FOUR_GIB - 4)
+        .field(field::SSP, 0x100c)
+        .bytes::<4>(FOUR_GIB - 4, 0x40_0005)
+        .bytes::<4>(0x100c, 0x40_0005);
+    let past = |sp| {
+        let name = format!("mode 1, SP {sp}");
+        Row::ends(name, case(sp, 0x1010), Answer::fault(SS))
+    };
+    vec![
+        pushed,
+        past(1),
+        past(2),
+        past(3),
+        Row::ends("mode 1, SP 4", case(4, 0x1010), Answer::page_fault(0)),
+        Row::ends(
+            "mode 1, SSP 0",
+            case(0, 0),
+            Answer::page_fault(FOUR_GIB - 4),
+        ),
+    ]
+}
+
+/// A call with this operand, on a limit that only mode 1 knows.
+fn call(mode: u64, code: u64, a: u64) -> Case {
+    plain(&[[code, 5, a, 0]])
+        .with(field::MODE, mode)
+        .with(field::LIMIT, LIMIT)
+}
+
+/// A call that completes and pushes in 4 or 8 bytes.
+fn called(name: &str, case: Case, target: u64, size: u64) -> Row {
+    let row = Row::completes(name, case)
+        .field(field::IP, target)
+        .field(field::SP, 0x5010 - size)
+        .field(field::SSP, 0x1ff0 - size);
+    let next = 0x40_0005;
+    match size {
+        4 => row.bytes::<4>(0x500c, next).bytes::<4>(0x1fec, next),
+        _ => row.bytes::<8>(0x5008, next).bytes::<8>(0x1fe8, next),
+    }
+}
+
+/// Mode 1 calls to the code limit and one above; calls beside the hole; calls
+/// at the ends of the displacement and to the next instruction or beside it.
+fn targets() -> Vec<Row> {
+    let fault = |name, case| Row::ends(name, case, Answer::fault(GP));
+    let below = 0x0000_7fff_ffff_ffff;
+    let above = 0xffff_8000_0000_0000;
+    let up = 0x40_0005 + 0x7fff_ffff;
+    let down = 0x40_0005_u64.wrapping_sub(0x8000_0000);
+    vec![
+        called("absolute, to the limit", call(1, 8, LIMIT), LIMIT, 4),
+        fault("absolute, past the limit", call(1, 8, LIMIT + 1)),
+        called("relative, to the limit", call(1, 7, 0xffb), LIMIT, 4),
+        fault("relative, past the limit", call(1, 7, 0xffc)),
+        called("mode 2 has no limit", call(2, 8, LIMIT + 1), LIMIT + 1, 8),
+        called("end below the hole", call(2, 8, below), below, 8),
+        fault("start of the hole", call(2, 8, below + 1)),
+        fault("end of the hole", call(2, 8, above - 1)),
+        called("start above the hole", call(2, 8, above), above, 8),
+        called("farthest up", call(2, 7, 0x7fff_ffff), up, 8),
+        called("farthest down", call(2, 7, 0x8000_0000), down, 8),
+        called("back to itself", call(1, 7, 0xffff_fffb), 0x40_0000, 4),
+        called("absolute, to Next", call(2, 8, 0x40_0005), 0x40_0005, 8),
+        called("one past Next", call(2, 7, 1), 0x40_0006, 8),
+        called("one short of Next", call(1, 7, 0xffff_ffff), 0x40_0004, 4),
+    ]
+}
+
+/// Calls of the next line, and beside them other displacements.
+fn calls_of_next() -> Vec<Row> {
     let places = (0..8).map(|number| Place {
         mode: 1 + number / 4,
         cpl: number % 4,
@@ -445,5 +587,87 @@ impl Place {
             rows.push(self.all_pushed(row, 0x6000, &addresses));
         }
         rows
+    }
+}
+
+/// A target for an absolute call.
+pub(crate) fn target(dice: &mut Dice, world: &World) -> u64 {
+    let any = dice.any();
+    let near = dice
+        .one_of(&LANDMARKS)
+        .wrapping_add(dice.below(3))
+        .wrapping_sub(1);
+    let limit = world.limit + dice.below(3);
+    let low = dice.below(0x80_0000);
+    dice.one_of(&[low, low, limit.saturating_sub(1), near, any])
+}
+
+/// A displacement for a relative call.
+pub(crate) fn displacement(dice: &mut Dice, world: &World, state: &[u64]) -> u64 {
+    let any = dice.below(FOUR_GIB);
+    let to_target = target(dice, world).wrapping_sub(state[field::IP]);
+    let close = to_target.wrapping_sub(dice.between(0, 16)) % FOUR_GIB;
+    let end = dice.one_of(&[0x7fff_ffff, 0x8000_0000, 0xffff_ffff]);
+    dice.one_of(&[0, 0x10, 0x10, 0xffff_fff0, end, close, any])
+}
+
+impl Spot {
+    /// A Next at which code may lie, with bytes that are all different.
+    fn next(self) -> u64 {
+        if self.mode == 1 {
+            NARROW
+        } else {
+            0xffff_9876_5432_1043
+        }
+    }
+
+    /// CALL in both forms, the push at the spot being the ordinary one or that
+    /// on the shadow stack. A relative call of mode 2, and one of the next line,
+    /// needs a Next close to where code may lie.
+    pub(crate) fn calls(self) -> Vec<Trial> {
+        let absolute = ([8, LENGTH, 0x1234, 0], self.value(), 0x1234);
+        let next = self.next();
+        let of_next = ([8, LENGTH, next, 0], next, next);
+        let relative = ([7, LENGTH, 0x10, 0], next, next + 0x10);
+        let mut trials = Vec::new();
+        for (words, next, target) in [absolute, of_next, relative] {
+            let call = |sp, ssp| {
+                self.frames(words, sp, ssp, Deed::Store(next))
+                    .with(field::IP, next - LENGTH)
+                    .with(field::SP, self.after(sp))
+                    .with(field::SSP, self.after(ssp))
+                    .sets(field::IP, target)
+                    .sets(field::SP, sp)
+                    .sets(field::SSP, ssp)
+            };
+            trials.extend(self.on_either_stack(call));
+        }
+        trials
+    }
+
+    /// CALL with displacement 0, which pushes on the ordinary stack alone. The
+    /// push is made at the spot; or else one on the shadow stack would be, and
+    /// then the pages beside the end are not looked at.
+    pub(crate) fn calls_of_next(self) -> Vec<Trial> {
+        let next = self.next();
+        let words = [7, LENGTH, 0, 0];
+        let call = |sp, ssp| {
+            self.trial(&format!("{words:x?} with {sp:x} below {ssp:x}"), words)
+                .with(field::IP, next - LENGTH)
+                .with(field::SP, self.after(sp))
+                .with(field::SSP, ssp)
+                .touches(ORDINARY, sp, self.size(), Deed::Store(next))
+                .sets(field::SP, sp)
+        };
+        let pushed = |ssp| Trial {
+            kind: ORDINARY,
+            ..call(self.at, ssp)
+        };
+        let above = self.after(self.at);
+        vec![
+            pushed(SAFE_SHADOW + 0x808),
+            pushed(above),
+            call(SAFE_ORDINARY + 0x808, above),
+        ]
     }
 }

@@ -1,8 +1,14 @@
 //! WRUSS: who may, what is asked and in which order, and which pages it reaches.
 
-use crate::answer::{Answer, GP, UD};
+use super::{WIDE, real_mode};
+use crate::answer::{Answer, GP, PF, UD};
 use crate::case::{Case, FOUR_GIB, field};
+use crate::page_ends::trials::{LENGTH, Spot};
+use crate::page_ends::{Deed, Trial};
 use crate::rows::{Row, plain};
+use crate::table::{Class, Law, law};
+use crate::world::World;
+use driftpocket_reference::dice::Dice;
 
 /// A value whose bytes are all different, and its low half.
 const VALUE: u64 = 0x8877_6655_4433_2211;
@@ -36,9 +42,10 @@ fn written(name: impl Into<String>, case: Case, at: u64, size: u64) -> Row {
     }
 }
 
-/// All of them.
+/// All rows.
 pub fn rows() -> Vec<Row> {
     [
+        in_real_mode(),
         registers(),
         cet_off(),
         levels(),
@@ -49,6 +56,13 @@ pub fn rows() -> Vec<Row> {
         beside_wrss(),
     ]
     .concat()
+}
+
+/// Mode 0: #UD whatever the operands.
+fn in_real_mode() -> Vec<Row> {
+    [11, 12]
+        .map(|code| real_mode(code, WIDE, WIDE, Answer::fault(UD)))
+        .into()
 }
 
 /// Neither SH_STK_EN nor WR_SHSTK_EN of either register counts.
@@ -221,4 +235,52 @@ fn beside_wrss() -> Vec<Row> {
             Answer::page_fault(0x1008),
         )),
     ]
+}
+
+/// Answers that it does not give.
+pub(crate) const LAWS: &[Law] = &[
+    law("enabled means that CR4.CET is 1, as WRUSS asks", |cell| {
+        cell.is_enabled()
+            && cell.mode() > Some(0)
+            && cell.is_user_write()
+            && cell.vector() == Some(UD)
+    }),
+    law("above CPL 0 WRUSS gives #GP if not #UD", |cell| {
+        let above = cell.column.is_some_and(|column| column.cpl > 0);
+        let further = matches!(cell.class, Class::Completed | Class::Faulted(PF));
+        above && cell.is_user_write() && further
+    }),
+];
+
+/// An address and a value, with so many bytes.
+pub(crate) fn operands(dice: &mut Dice, world: &World, size: u64) -> (u64, u64) {
+    let at = match dice.below(12) {
+        0 | 1 => {
+            let off = dice.between(1, size - 1);
+            world.near(dice, &world.user, size).wrapping_add(off)
+        }
+        2 => world.near_shadow(dice, size),
+        3 => world.near(dice, &world.ordinary, size),
+        _ => world.near(dice, &world.user, size),
+    };
+    (at, dice.any())
+}
+
+impl Spot {
+    /// WRUSS at the spot. It is for CPL 0 alone and reaches pages of user code.
+    pub(crate) fn user_writes(self) -> Vec<Trial> {
+        let write = |&size: &u64| {
+            let words = [10 + size / 4, LENGTH, self.at, self.value()];
+            let mut trial = self
+                .trial(&format!("WRUSS of {size}"), words)
+                .needs_multiple(self.at, size)
+                .touches(1, self.at, size, Deed::Store(self.value()));
+            trial.kind = 1;
+            if self.cpl > 0 {
+                trial.early = Some(Answer::fault(GP));
+            }
+            trial
+        };
+        self.sizes().iter().map(write).collect()
+    }
 }
