@@ -10,6 +10,7 @@ mod worked_returns;
 use super::step as take_step;
 use super::*;
 use crate::address::{ABOVE_HOLE, HOLE};
+use crate::fault::Part;
 use crate::processor::FIELDS;
 
 const MODE: usize = 0;
