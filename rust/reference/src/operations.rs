@@ -35,7 +35,7 @@ pub enum Outcome {
 
 /// An instruction that was read for some mode.
 #[derive(Clone, Copy, Debug, PartialEq, Eq)]
-pub struct Instruction {
+struct Instruction {
     length: u64,
     operation: Operation,
 }
@@ -62,7 +62,7 @@ enum Operation {
 impl Instruction {
     /// Reads code, length, A and B in a mode. Nothing comes back if they break
     /// their form, which is refusal 6.
-    pub fn read(words: [u64; 4], mode: Mode) -> Option<Instruction> {
+    fn read(words: [u64; 4], mode: Mode) -> Option<Instruction> {
         let [code, length, a, b] = words;
         let fits = |word| mode != Mode::Protected || Width::Four.holds(word);
         if !(1..=15).contains(&length) || !fits(a) || !fits(b) {
