@@ -177,6 +177,9 @@ fn neither_other_flags_nor_the_mark_of_the_mode_are_asked_for() {
     let mut bench = saver(2, 0, 0x1ff2);
     bench.completes(SAVEPREVSSP, 0, 0);
     assert_eq!(bench.word_at(0x1fe8), 0x1ff1);
+    // The mark of the mode does not stand in for bit 1.
+    let mut bench = saver(2, 0, 0x1ff1);
+    assert_eq!(bench.fault(SAVEPREVSSP, 0, 0), Fault::PreviousMark);
 }
 
 #[test]
