@@ -12,8 +12,8 @@
 //!
 //! * [`address`]: exact sums, their reduction, canonical addresses.
 //! * [`pages`]: reading a page list, the refusals 1 to 4, finding a byte.
-//! * [`memory`]: loads and stores of 4 or 8 bytes on lent pages.
-//! * [`transaction`]: several of them that take effect together or not at all.
+//! * [`memory`]: lent pages, and what an access of 4 or 8 bytes reaches there.
+//! * [`transaction`]: loads, and stores that take effect together or not at all.
 //! * [`processor`]: the ten fields of a state, refusal 5, what follows from it.
 //! * [`fault`]: why an operation can't be done, and what is reported of it.
 //! * [`operations`]: reading an instruction, refusal 6, the operations.

@@ -1,4 +1,5 @@
-//! Sheets of which the rules say what must come. Tabs are shown as `|`.
+//! What no stored text can say of sheets: buffers, reports, writes, and lines in
+//! many wrong places. Tabs are shown as `|`.
 
 use super::*;
 
@@ -171,17 +172,6 @@ fn lines_that_are_missing_or_not_ended() {
     let text = with(&REST);
     refused(&text[..text.len() - 1], 9, 10);
     refused(&[&text[..], b"d"].concat(), 9, 11);
-}
-
-#[test]
-fn lines_that_are_not_understood() {
-    refused(&tabs("sheet|x0000000000000002\n"), 9, 1);
-    refused(&[b"\xef\xbb\xbf", &tabs(BARE)[..]].concat(), 9, 1);
-    refused(&tabs(&BARE.replace("ffffffff\n", "ffffffff\r\n")), 9, 2);
-    refused(&tabs(&BARE.replace("ffffffff\n", "fffffffF\n")), 9, 2);
-    for wrong in ["word", "do|x0000000000000001", "page|x1", "call", "|", " "] {
-        refused(&with(&[REST[0], wrong, REST[1]]), 9, 4);
-    }
 }
 
 #[test]

@@ -1,6 +1,6 @@
 //! WRUSS: the most privileged code writes to a shadow stack of user code.
 
-use super::{Machine, need_multiple};
+use super::machine::{Machine, need_multiple};
 use crate::fault::{Fault, Part};
 use crate::memory::{Access, Size};
 use crate::pages::Kind;
@@ -9,7 +9,7 @@ use crate::processor::Mode;
 impl Machine<'_> {
     /// WRUSS. Of the control registers it asks nothing: neither that shadow
     /// stacks are on nor that plain writes are permitted.
-    pub(super) fn write_for_user(&mut self, size: Size, at: u64, value: u64) -> Result<(), Fault> {
+    pub(super) fn wruss(&mut self, size: Size, at: u64, value: u64) -> Result<(), Fault> {
         if self.state.mode == Mode::Real {
             return Err(Fault::RealMode);
         }
@@ -24,8 +24,6 @@ impl Machine<'_> {
             kind: Kind::UserShadow,
             ..self.shadow(size, at)
         };
-        self.memory
-            .store(&access, value)
-            .map_err(|obstacle| Fault::of_access(Part::UserValue, obstacle))
+        self.store(Part::UserValue, &access, value)
     }
 }

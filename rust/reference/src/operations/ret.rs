@@ -1,7 +1,7 @@
 //! Near RET: back to where the ordinary stack says, if the shadow stack says
 //! the same.
 
-use super::Machine;
+use super::machine::Machine;
 use crate::fault::{Fault, Part};
 use crate::memory::Size;
 
@@ -11,7 +11,7 @@ pub(super) const COUNTS: u64 = 1 << 16;
 impl Machine<'_> {
     /// Near RET. The target is popped off the ordinary stack, then compared,
     /// then checked. The bytes that the count drops are not looked at.
-    pub(super) fn near_return(&mut self, count: u64) -> Result<(), Fault> {
+    pub(super) fn ret(&mut self, count: u64) -> Result<(), Fault> {
         let size = self.return_size();
         let target = self.pop_ordinary(size)?;
         if self.state.is_enabled() && self.pop_shadow(Part::ShadowPop, size)? != target {
@@ -25,21 +25,11 @@ impl Machine<'_> {
 
     /// Loads at SP and moves it up.
     fn pop_ordinary(&mut self, size: Size) -> Result<u64, Fault> {
-        let mode = self.state.mode;
-        let access = self.ordinary(size, self.state.sp);
-        if self.leaves_the_stack(&access) {
-            return Err(if mode.is_long() {
-                Fault::PopNotCanonical
-            } else {
-                Fault::PopPastEnd
-            });
-        }
-        let value = self
-            .memory
-            .load(&access)
-            .map_err(|obstacle| Fault::of_access(Part::OrdinaryPop, obstacle))?;
+        let outside = [Fault::PopNotCanonical, Fault::PopPastEnd];
+        let access = self.ordinary(size, self.state.sp, outside)?;
+        let value = self.load(Part::OrdinaryPop, &access)?;
         let exact = i128::from(self.state.sp) + size.bytes();
-        self.state.sp = mode.width().reduce(exact);
+        self.state.sp = self.state.mode.width().reduce(exact);
         Ok(value)
     }
 }
