@@ -115,8 +115,8 @@ fn reports() -> Vec<Row> {
         };
         if room < REPORT_WORDS {
             let name = format!("room for {room} words");
-            rows.push(Row::too_short(name.clone(), cut(&good)));
-            rows.push(Row::too_short(name + ", refused", cut(&refused)));
+            rows.push(Row::too_short(name.clone(), cut(&good), 8));
+            rows.push(Row::too_short(name + ", refused", cut(&refused), 5));
             continue;
         }
         rows.push(Row::ends(

@@ -31,5 +31,5 @@ fn the_operations() {
 
 #[test]
 fn refusals_and_their_order() {
-    check(&refusals::rows(), 2353);
+    check(&refusals::rows(), 2553);
 }

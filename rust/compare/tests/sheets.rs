@@ -22,7 +22,7 @@ fn rows_about_texts() {
 
 #[test]
 fn rows_about_refusals_rooms_and_writes() {
-    check(&refusals::rows(), 1292);
+    check(&refusals::rows(), 1914);
 }
 
 #[test]

@@ -266,12 +266,45 @@ wrong_run!(
 );
 
 wrong_run!(runs_without_room, |state, pages, bytes, words, report| {
-    if report.len() < 5 {
+    let returned = right(state, pages, bytes, words, report);
+    if report.len() < 5 && returned == 8 {
         right(state, pages, bytes, words, &mut [0; 5]);
-        return 8;
     }
-    right(state, pages, bytes, words, report)
+    returned
 });
+
+wrong_run!(
+    looks_for_room_first,
+    |state, pages, bytes, words, report| {
+        if report.len() < 5 {
+            return 8;
+        }
+        right(state, pages, bytes, words, report)
+    }
+);
+
+wrong_run!(
+    looks_for_room_after_the_form,
+    |state, pages, bytes, words, report| {
+        let returned = right(state, pages, bytes, words, report);
+        let tried = try_out(state, pages, bytes, words);
+        if report.len() < 5 && tried == 6 {
+            return tried;
+        }
+        returned
+    }
+);
+
+wrong_run!(
+    writes_a_short_report,
+    |state, pages, bytes, words, report| {
+        let returned = right(state, pages, bytes, words, report);
+        if let ([_, word, ..], 1..=7) = (&mut *report, returned) {
+            *word = returned;
+        }
+        returned
+    }
+);
 
 wrong_run!(
     returns_a_bare_vector,
@@ -309,7 +342,7 @@ wrong_run!(
     tests_seven_before_five,
     |state, pages, bytes, words, report| {
         let returned = right(state, pages, bytes, words, report);
-        if returned == 5 && !words.len().is_multiple_of(4) {
+        if returned == 5 && !words.len().is_multiple_of(4) && report.len() >= 5 {
             report[1] = 7;
             return 7;
         }
@@ -380,6 +413,12 @@ const COMMON: &[Named] = &[
     ("idles after one", idles_after_one),
     ("writes past the report", writes_past_the_report),
     ("runs without room", runs_without_room),
+    ("looks for room first", looks_for_room_first),
+    (
+        "looks for room after the form",
+        looks_for_room_after_the_form,
+    ),
+    ("writes a short report", writes_a_short_report),
     ("returns a bare vector", returns_a_bare_vector),
     ("forgets the error code", forgets_the_error_code),
     ("names the page", names_the_page),
