@@ -28,6 +28,10 @@ pub every-mem : (P : Page → Type 0) {p : Page} {ps : List Page} → Every P ps
 every-mem P all (List·Memᴰ·head e) = subst P (sym e) (all .0)
 every-mem P all (List·Memᴰ·tail m) = every-mem P (all .1) m
 
+pub every-self : (ps : List Page) → Every (λ p. List·Memᴰ p ps) ps
+every-self [] = tt
+every-self (p ∷ ps) = (List·Memᴰ·head refl, every-map (λ q. List·Memᴰ q ps) (λ q. List·Memᴰ q (p ∷ ps)) ps (λ q m. List·Memᴰ·tail m) (every-self ps))
+
 -- ---- a page put into its place
 
 data Inserted (p : Page) : List Page → List Page → Type 0 where

@@ -96,7 +96,7 @@ module _ (entries bytes : List ℕ) (is-valid : listing entries (length bytes) �
 
 -- ---- from a sheet to the buffers and back
 
-pages-back : (ps : List Page) → WholePages ps → pagesOf (entriesOf ps) (bytesOf ps) ≡ ps
+pub pages-back : (ps : List Page) → WholePages ps → pagesOf (entriesOf ps) (bytesOf ps) ≡ ps
 unfolding WholePages pagesOf entriesOf bytesOf
 pages-back [] whole = refl
 pages-back (p ∷ ps) whole =

@@ -4,6 +4,7 @@ use mathlib.Core.Bool.{Bool, cond, _&&_}
 use mathlib.Core.List.{List}
 use lib.ListN.{length}
 use lib.Dec.{leb}
+use Rattle.answers.specs.Answer.{refusalNumber, roomNumber, sheetNumber}
 use Rattle.processor.specs.State.{inRange}
 use Rattle.processor.specs.Layout.{stateOf}
 use Rattle.replay.specs.Run.{checkBy}
@@ -15,6 +16,13 @@ use Rattle.numbers.specs.Buffers.{laid}
 use Rattle.sheet_read.specs.declared.buffers.Sizes.{Sizes}
 use Rattle.sheet_read.specs.declared.buffers.Reading.{Reading}
 use Rattle.sheet_read.specs.declared.buffers.Reading.the-variants.{Done, NoSheet, Refused, TooLong}
+
+-- the refusal of a read, or 0
+abbrev pub readNumber : Reading → ℕ
+readNumber (Done sizes) = 0
+readNumber (NoSheet line) = sheetNumber
+readNumber (Refused refusal) = refusalNumber refusal
+readNumber (TooLong sizes) = roomNumber
 
 -- what is read into
 pub record Buffers : Type 0 where
