@@ -11,6 +11,7 @@ use borrow.Author.Tests.{lt-ltb}
 use Rattle.numbers.specs.Buffers.{laid, laidIf}
 use Rattle.numbers.proofs.Laws.{laid-if}
 use Rattle.answers.specs.Answer.{roomNumber}
+use Rattle.processor.specs.Layout.{goodState}
 use Rattle.replay.specs.Run.{checkBy}
 use Rattle.replay.specs.declared.steps.Tested.{Tested}
 use Rattle.replay.specs.declared.steps.Tested.the-variants.{Passed, Failed}
@@ -19,7 +20,7 @@ use Rattle.sheet.specs.Reading.{Parsed, sheet, noSheet, parsed}
 use Rattle.sheet_read.specs.Reads.{Buffers, Read, byTest as readByTest, byText, delivered, fits, tested, reads}
 use Rattle.sheet_read.specs.declared.buffers.Reading.{Reading}
 use Rattle.sheet_read.specs.declared.buffers.Reading.the-variants.{Done as ReadDone, NoSheet, Refused as ReadRefused, TooLong as ReadTooLong}
-use Rattle.sheet_write.specs.Writes.{Written, byTest as writeByTest, goodState, printed, writes}
+use Rattle.sheet_write.specs.Writes.{Written, byTest as writeByTest, printed, writes}
 use Rattle.sheet_write.specs.declared.text.Writing.{Writing}
 use Rattle.driftpocket_sheet.specs.Crossing.{readNumber, writeNumber, orNoRoom, readReport, writeReport, readWords, writeWords, crossedRead, crossedWrite}
 
