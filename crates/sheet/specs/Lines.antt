@@ -38,8 +38,12 @@ unfoldable pub fields : List ℕ → List ℕ
 fields [] = []
 fields (v ∷ vs) = tab ∷ (number v ++ fields vs)
 
+-- a line of any name
+abbrev pub lineOf : List ℕ → List ℕ → List ℕ
+lineOf named vs = named ++ (fields vs ++ (lineFeed ∷ []))
+
 unfoldable pub line : Line → List ℕ → List ℕ
-line kind vs = name kind ++ (fields vs ++ (lineFeed ∷ []))
+line kind vs = lineOf (name kind) vs
 
 -- ---- a text and its lines
 
