@@ -64,8 +64,14 @@ module _ (kind : Line) (u : List ℕ) where
       let named : first kind - 1 ≡ length (name kind) = omega arith in
       let last : length (name kind) + 18 * n ≡ width kind - 1 = omega arith in
       begins-append (name kind) (fieldForms n ++ (lineFeed ∷ [])) u
-      ∙ rw (begins-append (fieldForms n) (lineFeed ∷ []) (drop (length (name kind)) u), forms-length n, drop-drop (18 * n) (length (name kind)) u, last, named,
-        feed-test u (width kind - 1) (omega arith))
+      ∙ rw (
+        begins-append (fieldForms n) (lineFeed ∷ []) (drop (length (name kind)) u),
+        forms-length n,
+        drop-drop (18 * n) (length (name kind)) u,
+        last,
+        named,
+        feed-test u (width kind - 1) (omega arith),
+      )
 
 -- the part of a text from a place on, as the code lends it
 pub rest-whole : (text : List ℕ) (at : ℕ) → take (length text - at) (drop at text) ≡ drop at text

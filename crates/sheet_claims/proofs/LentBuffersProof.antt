@@ -170,8 +170,7 @@ same-pages : (pages bytes : List ℕ) → let ps : List Page = ascended (pagesOf
     WholePages ps → HoldsPages pages bytes (entriesOf ps) (bytesOf ps) × HoldsPages (entriesOf ps) (bytesOf ps) pages bytes
 same-pages pages bytes whole =
     let lent : List Page = pagesOf pages bytes in
-    let ps : List Page = ascended lent in
-    (
+    let ps : List Page = ascended lent in (
       held-lent pages bytes (entriesOf ps) (bytesOf ps)
           (rw (pages-back ps whole) (every-map (λ r. List·Memᴰ r lent) (λ r. List·Memᴰ r ps) lent (λ r. mem-ascended r lent) (every-self lent))),
       held-lent (entriesOf ps) (bytesOf ps) pages bytes (rw (pages-back ps whole) (every-ascended (λ r. List·Memᴰ r lent) lent (every-self lent))),

@@ -76,8 +76,7 @@ module _ (kind : Line) where
           → Prints (cond t (suc (plainCount kind ls)) 0) (take (cond t (suc (plainCount kind ls)) 0) (l ∷ ls))
       go true e after =
           let own = values-count kind l in
-          let rest : List ℕ = numbers kind (take (plainCount kind ls) ls) in
-          (
+          let rest : List ℕ = numbers kind (take (plainCount kind ls) ls) in (
             rw (length-append, own, after .0, mul-suc) (omega arith),
             rw (take-at (values kind l) rest each own, drop-at (values kind l) rest each own, line-values kind l e, after .1),
           )

@@ -65,7 +65,12 @@ fn judge(text: &[u8], shape: Shape) -> Tested
     let good = is_good(text, shape);
     let mut entries = [0u64; PAGE_LIMIT];
     fill_lines(Line::Page, text, shape.pages, &mut entries);
-    replay::check(&entries[..pages], PAGE_BYTES * pages, good, INSTRUCTION_WORDS * shape.steps.count)
+    replay::check(
+        &entries[..pages],
+        PAGE_BYTES * pages,
+        good,
+        INSTRUCTION_WORDS * shape.steps.count,
+    )
 }
 
 // Whether every part fits its buffer, of these lengths.

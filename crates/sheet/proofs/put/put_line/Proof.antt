@@ -96,8 +96,7 @@ returns-3 c =
     let fits = room else2 in
     let kept : length (after-put-fields .put-fields .last .1 .0) ≡ length (args .text .now) = after-text2 .text2 .given ∙ after-text .text .given in
     let last : at + (length name + 18 * length values) + 1 ≤ length (after-put-fields .put-fields .last .1 .0) = omega (arith, kept, fits) in
-    let named = after-copy .copy-bytes .ensures .1 ∙ laid-if (args .text .now) at name (omega arith) in
-    (
+    let named = after-copy .copy-bytes .ensures .1 ∙ laid-if (args .text .now) at name (omega arith) in (
       sym (fitting else2),
       after-copy2 .copy-bytes2 .ensures .1
           ∙ laid-if _ _ (lineFeed ∷ []) last
