@@ -215,7 +215,7 @@ uint64_t driftpocket_run(uint64_t *state, size_t state_len, const uint64_t *page
  *   bytes   4,096 for each entry, 0 where no `word` line says otherwise
  *   words   four for each instruction
  * What lies past these stays as it was, and so do all four buffers on any refusal.
- *   report  always: its first five words, as above. What lies past them stays as it was.
+ *   report  its first five words, as above, on refusals too. What lies past them stays as it was.
  * If `report_len` is below 5, nothing is written. The answer is then 9, 1, 2, 3, 5 or 7, where one of these is due, and
  * otherwise 8.
  *

@@ -7,19 +7,17 @@ use mathlib.Core.List.{List, List·Memᴰ}
 use native.Mathlib.Omega.{arith}
 use lib.ListN.{length, take, drop}
 use lib.Seq.{take-at}
-use lib.Dec.{eqb, leb}
-use borrow.Author.Tests.{eqb-true, eq-eqb}
+use lib.Dec.{leb}
 use Rattle.pages.proofs.Laws.{valid-list, list-valid}
 use Rattle.memory.specs.Extends.{HoldsPages}
-use Rattle.processor.specs.State.{inRange}
-use Rattle.processor.specs.Layout.{fields, stateOf, goodState}
+use Rattle.processor.specs.Layout.{fields, goodState}
+use Rattle.processor.proofs.Layouts.{good-fields}
 use Rattle.replay.specs.Run.{checkBy}
 use Rattle.replay.specs.declared.steps.Tested.{Tested}
 use Rattle.replay.specs.declared.steps.Tested.the-variants.{Passed, Failed}
 use Rattle.numbers.specs.Buffers.{laid}
 use Rattle.sheet.specs.Sheets.{Page, Saved, WholePages, pagesOf, ascended, savedOf, entriesOf, bytesOf, text}
 use Rattle.sheet.specs.Reading.{Parsed, sheet, noSheet, parsed}
-use Rattle.sheet.proofs.DigitLaws.{both}
 use Rattle.sheet.proofs.TestedLaws.{Passes, passes, passed}
 use Rattle.sheet_read.specs.Reads.{readNumber, Buffers, Read, byTest, byText, tested, fits, filled, sizesOf, reads}
 use Rattle.sheet_read.specs.declared.buffers.Sizes.{Sizes}
@@ -126,17 +124,16 @@ read-untouched t lent e = text-untouched (parsed t) lent e
 -- ---- what was written is read
 
 pub saved-sheeted : SavedSheeted
-unfolding goodState
 saved-sheeted state pages bytes words small-state small-pages small-bytes small-words e =
     let has = passes pages (length bytes) (goodState state) (length words) e in
-    let ten : length state ≡ fields = eqb-true (length state) fields (both (eqb (length state) fields) (inRange (stateOf state)) (has .state) .0) in
+    let ten : length state ≡ fields = good-fields state (has .state) in
     lent-sheeted pages bytes (list-valid pages (length bytes) (has .list)) state words ten small-state small-pages small-bytes (has .whole) small-words
 
 pub longest-text : LongestText
-unfolding goodState textLength
+unfolding textLength
 longest-text state pages bytes words e =
     let has = passes pages (length bytes) (goodState state) (length words) e in
-    let ten : length state ≡ fields = eqb-true (length state) fields (both (eqb (length state) fields) (inRange (stateOf state)) (has .state) .0) in
+    let ten : length state ≡ fields = good-fields state (has .state) in
     let whole = has .list .whole in
     let few = has .list .few in
     let steps = has .few in
@@ -145,13 +142,13 @@ longest-text state pages bytes words e =
 
 -- the run, its pages ascending, passes the tests again
 again : (state pages bytes words : List ℕ) → Passes pages (length bytes) (goodState state) (length words) → tested (savedOf state pages bytes words) ≡ Passed
-unfolding tested savedOf goodState
+unfolding tested savedOf
 again state pages bytes words h =
     let s : Saved = savedOf state pages bytes words in
-    passed (entriesOf (s .pages)) (length (bytesOf (s .pages))) (inRange (stateOf state)) (length words)
+    passed (entriesOf (s .pages)) (length (bytesOf (s .pages))) (goodState state) (length words)
     (record {
       list = valid-list (entriesOf (s .pages)) (length (bytesOf (s .pages))) (ascended-valid pages bytes (list-valid pages (length bytes) (h .list)));
-      state = both (eqb (length state) fields) (inRange (stateOf state)) (h .state) .1;
+      state = h .state;
       whole = h .whole;
       few = h .few;
     })
@@ -201,13 +198,8 @@ pages-read-back state pages bytes words out lent long sizes small-state small-pa
 
 -- ---- what was read is written
 
--- the run of a sheet passes the tests of a write, as it did those of the read
-good-again : (s : Saved) → length (s .state) ≡ fields → tested s ≡ Passed → checkBy (entriesOf (s .pages)) (length (bytesOf (s .pages))) (goodState (s .state)) (length (s .words)) ≡ Passed
-unfolding tested goodState
-good-again s ten good = rw (eq-eqb (length (s .state)) fields ten) good
-
 pub read-written : ReadWritten
-unfolding writes filled sizesOf
+unfolding writes filled sizesOf tested
 read-written t out lent sizes e =
     let was = read-was t lent sizes e in
     let s : Saved = was .saved in
@@ -216,4 +208,4 @@ read-written t out lent sizes e =
     let pages-are = front (lent .pages) (entriesOf (s .pages)) (sizes .pages) (ap (λ (z : Sizes). z .pages) (was .long)) in
     let bytes-are = front (lent .bytes) (bytesOf (s .pages)) (sizes .bytes) (ap (λ (z : Sizes). z .bytes) (was .long)) in
     let words-are = front (lent .words) (s .words) (sizes .words) (ap (λ (z : Sizes). z .words) (was .long)) in
-    rw (was .left, state-is, pages-are, bytes-are, words-are, good-again s (back .0 .fields) (was .good), saved-back s (back .0), back .1)
+    rw (was .left, state-is, pages-are, bytes-are, words-are, was .good, saved-back s (back .0), back .1)

@@ -9,7 +9,7 @@ use lib.Dec.{leb}
 use Rattle.pages.specs.Pages.{pageOf}
 use Rattle.sheet.specs.Lines.{isLine}
 use Rattle.sheet.specs.Sheets.{slots}
-use Rattle.pages.specs.Pages.{frameOf}
+use Rattle.pages.specs.Pages.{pageNumber}
 use Rattle.sheet.specs.Reading.{value, next, isWord, pageCount, numbers, plainCount, pastPlain, pastSlot, pastSlots, pastPages, stages}
 use Rattle.sheet.specs.declared.line.Line.{Line}
 use Rattle.sheet.specs.declared.line.Line.the-variants.{Page as PageLine, Do}
@@ -122,7 +122,7 @@ stages-stop xs l rest other h =
     let c : ℕ = pageCount 0 (xs ++ l ∷ rest) in
     let fewer = looks-behind (numbers PageLine (take c (xs ++ l ∷ rest))) .shorter (drop c (xs ++ l ∷ rest)) in
     let first
-    = stops-count pageCount (λ k l. isLine PageLine l && leb k (frameOf (value PageLine 0 l))) (λ k l. suc (frameOf (value PageLine 0 l))) (λ k l ls. refl) 0 xs l rest (omega arith) in
+    = stops-count pageCount (λ k l. isLine PageLine l && leb k (pageNumber (value PageLine 0 l))) (λ k l. suc (pageNumber (value PageLine 0 l))) (λ k l ls. refl) 0 xs l rest (omega arith) in
     let second
     = looks-behind (numbers PageLine (first .0)) .stops (first .1) l rest
     (subst₂ (λ (taken left : List (List ℕ)). length rest < length (leftBehind (numbers PageLine taken) left)) (first .2 rest .0) (first .2 rest .1) h) in

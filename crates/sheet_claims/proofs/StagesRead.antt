@@ -9,7 +9,7 @@ use lib.Seq.{take-append-seam, drop-append-seam, take-length, drop-length}
 use borrow.Author.Tests.{le-leb}
 use Rattle.sheet.specs.Lines.{fieldCount, line, isLine}
 use Rattle.sheet.specs.Sheets.{Page, Saved, Sheeted, Ascending, WholePages, pagesWords, pageLines, plainLines, entriesOf}
-use Rattle.pages.specs.Pages.{frameOf}
+use Rattle.pages.specs.Pages.{pageNumber}
 use Rattle.sheet.specs.Reading.{next, isWord, pageCount, numbers, stages}
 use Rattle.sheet.specs.declared.line.Line.the-variants.{Page as PageLine, Word, Do}
 use Rattle.sheet.proofs.LineLaws.{is-line-line, values-line}
@@ -30,8 +30,8 @@ unfolding pageCount pageLines Ascending WholePages
 pages-counted least [] rest up whole other = no-page least rest other
 pages-counted least (p ∷ ps) rest up whole other =
     let small = one-below (p .entry) (whole .0 .entry) in
-    rw (is-line-line PageLine (p .entry ∷ []) refl small, values-line PageLine (p .entry ∷ []) refl small, le-leb least (frameOf (p .entry)) (up .0))
-    (ap suc (pages-counted (suc (frameOf (p .entry))) ps rest (up .1) (whole .1) other))
+    rw (is-line-line PageLine (p .entry ∷ []) refl small, values-line PageLine (p .entry ∷ []) refl small, le-leb least (pageNumber (p .entry)) (up .0))
+    (ap suc (pages-counted (suc (pageNumber (p .entry))) ps rest (up .1) (whole .1) other))
 
 entries-read : (ps : List Page) → WholePages ps → numbers PageLine (pageLines ps) ≡ entriesOf ps
 unfolding numbers pageLines entriesOf WholePages

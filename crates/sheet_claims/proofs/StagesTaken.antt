@@ -11,7 +11,7 @@ use Rattle.pages.specs.Pages.{pageOf}
 use Rattle.sheet.specs.Digits.{Below}
 use Rattle.sheet.specs.Lines.{fieldCount, isLine, values}
 use Rattle.sheet.specs.Sheets.{Sheeted, Ascending, slots, pagesWords, pageLines, allPlain}
-use Rattle.pages.specs.Pages.{frameOf}
+use Rattle.pages.specs.Pages.{pageNumber}
 use Rattle.sheet.specs.Reading.{value, pageCount, numbers, pastSlots, pagesIn, pastPages, plainCount, stages}
 use Rattle.sheet.specs.declared.line.Line.{Line}
 use Rattle.sheet.specs.declared.line.Line.the-variants.{State, Page as PageLine, Do}
@@ -35,20 +35,20 @@ PagesPrint least taken more = Ascending least (pagesIn (numbers PageLine taken) 
 pages-taken : (least : ℕ) (ls more : List (List ℕ)) → PagesPrint least (take (pageCount least ls) ls) more
 unfolding Ascending pageLines pageCount numbers pagesIn
 pages-taken least [] more = (tt, refl)
-pages-taken least (l ∷ ls) more = go (isLine PageLine l && leb least frame) refl (pages-taken (suc frame) ls (pastSlots (pageOf entry) slots more))
+pages-taken least (l ∷ ls) more = go (isLine PageLine l && leb least page-number) refl (pages-taken (suc page-number) ls (pastSlots (pageOf entry) slots more))
   where
     entry : ℕ
     entry = value PageLine 0 l
 
-    frame : ℕ
-    frame = frameOf entry
+    page-number : ℕ
+    page-number = pageNumber entry
 
-    go : (t : Bool) → (isLine PageLine l && leb least frame) ≡ t → PagesPrint (suc frame) (take (pageCount (suc frame) ls) ls) (pastSlots (pageOf entry) slots more)
-        → PagesPrint least (take (cond t (suc (pageCount (suc frame) ls)) 0) (l ∷ ls)) more
+    go : (t : Bool) → (isLine PageLine l && leb least page-number) ≡ t → PagesPrint (suc page-number) (take (pageCount (suc page-number) ls) ls) (pastSlots (pageOf entry) slots more)
+        → PagesPrint least (take (cond t (suc (pageCount (suc page-number) ls)) 0) (l ∷ ls)) more
     go true e after =
-        let tests = and-eq-true-iff (isLine PageLine l) (leb least frame) .0 e in
+        let tests = and-eq-true-iff (isLine PageLine l) (leb least page-number) .0 e in
         let entry-is : values PageLine l ≡ entry ∷ [] = one-field PageLine l refl in
-        rw entry-is ((leb-true least frame (tests .1), after .0), rw (after .1, ← entry-is, line-values PageLine l (tests .0)))
+        rw entry-is ((leb-true least page-number (tests .1), after .0), rw (after .1, ← entry-is, line-values PageLine l (tests .0)))
     go false e after = (tt, refl)
 
 -- ---- all stages

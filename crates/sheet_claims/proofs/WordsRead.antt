@@ -13,7 +13,7 @@ use Rattle.pages.proofs.Laws.{page-and-offset, page-end}
 use Rattle.sheet.specs.Digits.{Below}
 use Rattle.sheet.specs.Lines.{line}
 use Rattle.sheet.specs.Sheets.{Page, Ascending, WholePages, wordLine, wordLines, slots, pagesWords, entriesOf}
-use Rattle.pages.specs.Pages.{frameOf}
+use Rattle.pages.specs.Pages.{pageNumber}
 use Rattle.sheet.specs.Reading.{next, isWord, slotValue, pastSlot, slotBytes, pastSlots, pagesIn, pastPages}
 use Rattle.sheet.specs.declared.line.Line.the-variants.{Word}
 use Rattle.sheet_claims.proofs.Bytes.{below-drop, little-below, bytes-of-little}
@@ -40,7 +40,7 @@ next-of-slots P address (suc n) bytes rest small each last =
 
 pub next-of-pages : (P : List ℕ → Type 0) (least : ℕ) (ps : List Page) (rest : List (List ℕ)) → Ascending least ps → WholePages ps
     → ((a v : ℕ) → 4096 * least ≤ a → a < 2 ^ 64 → v < 2 ^ 64 → P (line Word (a ∷ v ∷ []))) → P (next rest) → P (next (pagesWords ps ++ rest))
-unfolding pagesWords Ascending WholePages frameOf
+unfolding pagesWords Ascending WholePages pageNumber
 next-of-pages P least [] rest up whole each last = last
 next-of-pages P least (p ∷ ps) rest up whole each last =
     let low : least ≤ p .entry / 4096 = up .0 in
@@ -48,7 +48,7 @@ next-of-pages P least (p ∷ ps) rest up whole each last =
     let end = page-end (p .entry) (whole .0 .entry) in
     rw append-assoc
     (next-of-slots P (pageOf (p .entry)) slots (p .bytes) (pagesWords ps ++ rest) (whole .0 .bytes) (λ a v near far. each a v (omega arith) (omega arith))
-    (next-of-pages P (suc (frameOf (p .entry))) ps rest (up .1) (whole .1) (λ a v near. each a v (omega arith)) last))
+    (next-of-pages P (suc (pageNumber (p .entry))) ps rest (up .1) (whole .1) (λ a v near. each a v (omega arith)) last))
 
 -- ---- one value
 
@@ -92,8 +92,8 @@ pages-read least (p ∷ ps) rest up whole other =
     let more : List (List ℕ) = pagesWords ps ++ rest in
     let first = page-and-offset (p .entry) in
     let behind : Behind (pageOf (p .entry) + 8 * slots) more
-    = λ a near. next-of-pages (λ l. isWord a l ≡ false) (suc (frameOf (p .entry))) ps rest (up .1) (whole .1)
-    (λ b v far b-fits v-fits. other-word b v b-fits v-fits a (unfold frameOf in omega arith)) (other a) in
+    = λ a near. next-of-pages (λ l. isWord a l ≡ false) (suc (pageNumber (p .entry))) ps rest (up .1) (whole .1)
+    (λ b v far b-fits v-fits. other-word b v b-fits v-fits a (unfold pageNumber in omega arith)) (other a) in
     let here = slots-read (pageOf (p .entry)) slots (p .bytes) more (page-end (p .entry) (whole .0 .entry)) (whole .0 .long) (whole .0 .bytes) behind in
-    let after = pages-read (suc (frameOf (p .entry))) ps rest (up .1) (whole .1) other in
+    let after = pages-read (suc (pageNumber (p .entry))) ps rest (up .1) (whole .1) other in
     (rw (append-assoc, here .0, here .1, after .0), rw append-assoc (ap (pastPages (entriesOf ps)) (here .1) ∙ after .1))

@@ -5,8 +5,7 @@ use mathlib.Core.List.{List}
 use lib.ListN.{length}
 use lib.Dec.{leb}
 use Rattle.answers.specs.Answer.{refusalNumber, roomNumber, sheetNumber}
-use Rattle.processor.specs.State.{inRange}
-use Rattle.processor.specs.Layout.{stateOf}
+use Rattle.processor.specs.Layout.{goodState}
 use Rattle.replay.specs.Run.{checkBy}
 use Rattle.replay.specs.declared.steps.Tested.{Tested}
 use Rattle.replay.specs.declared.steps.Tested.the-variants.{Passed, Failed}
@@ -41,7 +40,7 @@ untouched answer lent = record { answer = answer; buffers = lent }
 
 -- refusals 1, 2, 3, 4, 5 and 7, as before a run
 unfoldable pub tested : Saved → Tested
-tested s = checkBy (entriesOf (s .pages)) (length (bytesOf (s .pages))) (inRange (stateOf (s .state))) (length (s .words))
+tested s = checkBy (entriesOf (s .pages)) (length (bytesOf (s .pages))) (goodState (s .state)) (length (s .words))
 
 -- how much a run takes
 unfoldable pub sizesOf : Saved → Sizes
