@@ -98,10 +98,10 @@ extern "C" {
 /*
  * ---- What is refused ----
  *
- * First of all 8 for a report that is too short. A read then tests 9. Then come 1, 2, 3, 4, 5, 7 in this order, each over
- * the whole input, and in a run all of them before the first instruction. 6 is given by runs only: it is tested as an
- * instruction's turn comes, ahead of every fault of that instruction. In a read and in a write 8 comes once more, last of
- * all, where the result is longer than its buffer. An empty page list and an empty run are good.
+ * A read tests 9 first. Then come 1, 2, 3, 4, 5, 7 in this order, each over the whole input, and then 8, where a result, the
+ * report among them, is longer than its buffer. In a run all of these come before the first instruction. 6 is given by runs
+ * only: it is tested as an instruction's turn comes, ahead of every fault of that instruction. A report that is too short
+ * is never written, whatever the answer. An empty page list and an empty run are good.
  *
  * This version gives no refusal above 9. Numbers up to 13 are set aside for it: take any answer from 1 to 255 as a refusal.
  */
@@ -154,7 +154,7 @@ extern "C" {
 /*
  * ---- A run ----
  *
- * Positions in its report. All five are written by every run, except by one that answers 8.
+ * Positions in its report. All five are written by every run, except where `report_len` is below 5.
  */
 
 #define DRIFTPOCKET_REPORT_COUNT 0   /* how many instructions completed */
@@ -170,10 +170,11 @@ extern "C" {
  *
  * What is written:
  *   state   the fields after the last completed instruction. Nothing of an instruction that is refused or faults shows in
- *           it. After refusals 1 to 5 and 7 it is as it was handed in.
+ *           it. After refusals 1 to 5, 7 and 8 it is as it was handed in.
  *   bytes   likewise: all stores of the completed instructions, and nothing else.
  *   report  its first five words, as above. What lies past them stays as it was.
- * If `report_len` is below 5, the answer is 8, nothing is run and nothing is written, whatever the rest of the input.
+ * If `report_len` is below 5, nothing is run and nothing is written. The answer is then 1 to 5 or 7, where one of these is
+ * due, and otherwise 8.
  */
 uint64_t driftpocket_run(uint64_t *state, size_t state_len, const uint64_t *pages, size_t pages_len, uint8_t *bytes,
                          size_t bytes_len, const uint64_t *words, size_t words_len, uint64_t *report, size_t report_len);
@@ -206,7 +207,7 @@ uint64_t driftpocket_run(uint64_t *state, size_t state_len, const uint64_t *page
  * Reads a sheet.
  *
  * Answers 0 or the refusal: 9; then 1, 2, 3, 5 or 7, as a run of what the sheet holds would; then 8, where one of the four
- * results is longer than its buffer. 4 cannot come, since the pages of a sheet ascend.
+ * results or the report is longer than its buffer. 4 cannot come, since the pages of a sheet ascend.
  *
  * What is written, where the answer is 0:
  *   state   the ten fields
@@ -214,8 +215,9 @@ uint64_t driftpocket_run(uint64_t *state, size_t state_len, const uint64_t *page
  *   bytes   4,096 for each entry, 0 where no `word` line says otherwise
  *   words   four for each instruction
  * What lies past these stays as it was, and so do all four buffers on any refusal.
- *   report  always: its first five words, as above. What lies past them stays as it was.
- * If `report_len` is below 5, the answer is 8 and nothing is written, whatever the rest of the input.
+ *   report  its first five words, as above, on refusals too. What lies past them stays as it was.
+ * If `report_len` is below 5, nothing is written. The answer is then 9, 1, 2, 3, 5 or 7, where one of these is due, and
+ * otherwise 8.
  *
  * DRIFTPOCKET_STATE_WORDS, _MOST_PAGES and so on are room enough for every sheet that is not refused. With buffers of
  * length 0, refusal 8 tells the lengths that are needed.
@@ -232,12 +234,13 @@ uint64_t driftpocket_sheet_read(const uint8_t *text, size_t text_len, uint64_t *
 /*
  * Writes the sheet of a run. The pages may be in any order.
  *
- * Answers 0 or the refusal: 1, 2, 3, 4, 5 or 7, as a run would; then 8, where the text is longer than its buffer.
+ * Answers 0 or the refusal: 1, 2, 3, 4, 5 or 7, as a run would; then 8, where the text or the report is longer than its
+ * buffer.
  *
  * What is written:
  *   text    where the answer is 0, the sheet. What lies past it stays as it was, and so does all of `text` on any refusal.
  *   report  its first two words, as above. What lies past them stays as it was.
- * If `report_len` is below 2, the answer is 8 and nothing is written, whatever the rest of the input.
+ * If `report_len` is below 2, nothing is written. The answer is then 1 to 5 or 7, where one of these is due, and otherwise 8.
  *
  * DRIFTPOCKET_MOST_TEXT is room enough for every run that is not refused. With a `text_len` of 0, refusal 8 tells the
  * length that is needed.

@@ -25,7 +25,7 @@ refusalNumber State = 5
 refusalNumber Instruction = 6
 refusalNumber Words = 7
 
--- refusals that belong to no run: a result is longer than the buffer lent for it; a text is no sheet
+-- the refusals of the calls: a result is longer than the buffer lent for it; a text is no sheet
 abbrev pub roomNumber : ℕ
 roomNumber = 8
 

@@ -21,7 +21,7 @@ use Rattle.processor.specs.State.{inRange}
 use Rattle.processor.specs.Layout.{fields, stateOf, formed, wordsOf}
 use Rattle.processor.specs.declared.state.State.{State}
 use Rattle.processor.specs.declared.layout.Formed.the-variants.{Whole, NoState}
-use Rattle.processor.proofs.Layouts.{formed-whole, formed-none, good-whole, good-none}
+use Rattle.processor.proofs.Layouts.{formed-whole, good-whole, good-none}
 use Rattle.replay.specs.Run.{inputOf, afterPages, checkBy, check, run, replayed}
 use Rattle.replay.specs.declared.steps.Tested.{Tested}
 use Rattle.replay.specs.declared.steps.Tested.the-variants.{Passed, Failed}
@@ -68,7 +68,7 @@ module _ (state pages bytes words report : List ℕ) where
 
   pub crossed-never : formed state ≡ NoState → byTests (tests false) state bytes report (unreported state bytes report) ≡ crossed state pages bytes words report
   unfolding crossed checkBy
-  crossed-never none = rw (good-none state (formed-none state none), fails (listing pages (length bytes)) .1)
+  crossed-never none = rw (good-none state none, fails (listing pages (length bytes)) .1)
 
   module _ (start : State) (whole : formed state ≡ Whole start) where
     pub crossed-short : length report < reportLength

@@ -17,12 +17,12 @@ use Rattle.replay.specs.declared.steps.Tested.{Tested}
 use Rattle.replay.specs.declared.steps.Tested.the-variants.{Passed, Failed}
 use Rattle.sheet.specs.Sheets.{Saved, savedOf, text as textOf}
 use Rattle.sheet.specs.Reading.{Parsed, sheet, noSheet, parsed}
-use Rattle.sheet_read.specs.Reads.{Buffers, Read, byTest as readByTest, byText, delivered, fits, tested, reads}
+use Rattle.sheet_read.specs.Reads.{readNumber, Buffers, Read, byTest as readByTest, byText, delivered, fits, tested, reads}
 use Rattle.sheet_read.specs.declared.buffers.Reading.{Reading}
 use Rattle.sheet_read.specs.declared.buffers.Reading.the-variants.{Done as ReadDone, NoSheet, Refused as ReadRefused, TooLong as ReadTooLong}
-use Rattle.sheet_write.specs.Writes.{Written, byTest as writeByTest, printed, writes}
+use Rattle.sheet_write.specs.Writes.{writeNumber, Written, byTest as writeByTest, printed, writes}
 use Rattle.sheet_write.specs.declared.text.Writing.{Writing}
-use Rattle.driftpocket_sheet.specs.Crossing.{readNumber, writeNumber, orNoRoom, readReport, writeReport, readWords, writeWords, crossedRead, crossedWrite}
+use Rattle.driftpocket_sheet.specs.Crossing.{orNoRoom, readReport, writeReport, readWords, writeWords, crossedRead, crossedWrite}
 
 -- what holds of both ways holds
 either : {A : Type 0} (p : Bool) (a b : A) (P : A → Type 0) → P a → P b → P (cond p a b)

@@ -6,29 +6,14 @@ use mathlib.Core.List.{List, [], _∷_}
 use lib.ListN.{length}
 use lib.Dec.{eqb, ltb}
 use Rattle.numbers.specs.Buffers.{laid}
-use Rattle.answers.specs.Answer.{refusalNumber, roomNumber, sheetNumber}
-use Rattle.sheet_read.specs.Reads.{Buffers, Read, reads}
+use Rattle.answers.specs.Answer.{roomNumber}
+use Rattle.sheet_read.specs.Reads.{readNumber, Buffers, Read, reads}
 use Rattle.sheet_read.specs.declared.buffers.Sizes.{Sizes}
 use Rattle.sheet_read.specs.declared.buffers.Reading.{Reading}
 use Rattle.sheet_read.specs.declared.buffers.Reading.the-variants.{Done as ReadDone, NoSheet, Refused as ReadRefused, TooLong as ReadTooLong}
-use Rattle.sheet_write.specs.Writes.{Written, writes}
+use Rattle.sheet_write.specs.Writes.{writeNumber, Written, writes}
 use Rattle.sheet_write.specs.declared.text.Writing.{Writing}
 use Rattle.sheet_write.specs.declared.text.Writing.the-variants.{Done as WriteDone, Refused as WriteRefused, TooLong as WriteTooLong}
-
--- ---- numbers
-
--- the refusal of a read, or 0
-abbrev pub readNumber : Reading → ℕ
-readNumber (ReadDone sizes) = 0
-readNumber (NoSheet line) = sheetNumber
-readNumber (ReadRefused refusal) = refusalNumber refusal
-readNumber (ReadTooLong sizes) = roomNumber
-
--- the refusal of a write, or 0
-abbrev pub writeNumber : Writing → ℕ
-writeNumber (WriteDone long) = 0
-writeNumber (WriteRefused refusal) = refusalNumber refusal
-writeNumber (WriteTooLong long) = roomNumber
 
 -- what is returned with a report that is too short: the refusal, and 8 where there is none
 abbrev pub orNoRoom : ℕ → ℕ

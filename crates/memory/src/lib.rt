@@ -23,6 +23,6 @@ pub use pages::Spot;
 pub use pages::Width;
 pub use pages::canonical;
 pub use pages::find;
-pub use pages::frame;
 pub use pages::next_page;
+pub use pages::page_number;
 pub use pages::page_of;

@@ -8,7 +8,8 @@
 -- is no i-th; `take n`, `drop n` are the first n elements and the rest. `≡` states that two things are equal. `zero` and `suc n` are the
 -- two cases of a count: none, or one more than n. `s .field` is a field, `record { .. }` a record with all its fields; `let x : A = e in B` is B
 -- with x for e. Types that come from `declared` (Access, Reach, Spot, ..) are declared in src/. `abbrev` and `unfoldable` only tell the
--- prover when to look inside.
+-- prover when to look inside. In claims `(x : A) →` is "for every x", `P → Q` "if P then Q", `P × Q` "both"; `data` lists the cases of a type, and
+-- `Unit {0}` always holds.
 --
 -- In a contract `λ r. ⌜ .. ⌝` says what holds of the result r; `now (bytes .entry)` and `now (bytes .exit)` are the bytes before and after.
 pub mod Address

@@ -29,8 +29,8 @@ unfoldable pub pageOf : ℕ → ℕ
 pageOf n = n / pageBytes * pageBytes
 
 -- the number of that page, counted from address 0: pages are ordered by it, whatever their kinds
-unfoldable pub frameOf : ℕ → ℕ
-frameOf n = n / pageBytes
+unfoldable pub pageNumber : ℕ → ℕ
+pageNumber n = n / pageBytes
 
 unfoldable pub kindOf : ℕ → ℕ
 kindOf entry = entry % pageBytes

@@ -5,8 +5,8 @@ mod pages;
 
 pub use address::Width;
 pub use address::canonical;
-pub use order::frame;
 pub use order::next_page;
+pub use order::page_number;
 pub use order::page_of;
 pub use pages::Listing;
 pub use pages::PAGE_BYTES;

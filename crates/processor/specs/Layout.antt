@@ -1,7 +1,7 @@
 -- The layout of a state: its fields in the order of the rules, from words and to words, and the state with some of them changed
 -- (docs/RULES.md, "State"). A further field edits the struct and this file. Assumes nothing.
 use Prim.Native.Nat.{ℕ}
-use mathlib.Core.Bool.{Bool, cond, _&&_}
+use mathlib.Core.Bool.{Bool, false, cond}
 use mathlib.Core.List.{List, [], _∷_}
 use lib.ListN.{length, getD}
 use lib.Dec.{eqb}
@@ -35,8 +35,12 @@ unfoldable pub formed : List ℕ → Formed
 formed words = cond (eqb (length words) fields) (Whole (stateOf words)) NoState
 
 -- they make a state, and each field is in its range
+abbrev pub goodFormed : Formed → Bool
+goodFormed (Whole s) = inRange s
+goodFormed NoState = false
+
 unfoldable pub goodState : List ℕ → Bool
-goodState words = eqb (length words) fields && inRange (stateOf words)
+goodState words = goodFormed (formed words)
 
 -- the words of a state
 abbrev pub wordsOf : State → List ℕ

@@ -5,7 +5,7 @@
 --     some-fields, few-fields, early-first                    how many numbers a line has, and where they begin
 --     value-below                                             16 digits hold a number of 64 bits
 -- A line of a kind at the front of a text:
---     line-room                                               the text is as long as the line
+--     line-room, line-short, nothing-begins                   the text is as long as the line
 --     next-line, lines-step                                   it is the text's first line
 --     line-numeral                                            where its numbers stand, they are read
 -- A line:
@@ -18,7 +18,7 @@
 -- Assumes nothing.
 use Prim.Native.Nat.{ℕ, zero, suc, _+_, _*_, _^_, _<_, _≤_}
 use mathlib.Core.Path.{_≡_, refl, sym, ap, ap₂, _∙_}
-use mathlib.Core.Bool.{Bool, true, not, cond, _&&_}
+use mathlib.Core.Bool.{Bool, true, false, not, cond, _&&_}
 use mathlib.Core.List.{List, [], _∷_, _++_, append-assoc}
 use native.Mathlib.Omega.{arith}
 use lib.ListN.{length, take, drop, getD, length-append, length-drop, drop-of-length-le}
@@ -136,6 +136,17 @@ marks-lack-feed kind = lacks-append lineFeed (name kind) (fieldForms (fieldCount
 
 pub line-room : (kind : Line) (u : List ℕ) → begins (form kind) u ≡ true → width kind ≤ length u
 line-room kind u h = let room = begins-room (form kind) u h in let long = form-length kind in omega arith
+
+not-so : (b : Bool) → (b ≡ true → ⊥) → b ≡ false
+not-so true other = absurd (other refl)
+not-so false other = refl
+
+-- no line stands in a text that is too short for it, so none in an empty one
+pub line-short : (kind : Line) (u : List ℕ) → length u < width kind → begins (form kind) u ≡ false
+line-short kind u short = not-so (begins (form kind) u) (λ h. let room = line-room kind u h in omega arith)
+
+pub nothing-begins : (kind : Line) → begins (form kind) [] ≡ false
+nothing-begins kind = line-short kind [] (omega arith)
 
 pub lines-step : (kind : Line) (u : List ℕ) → begins (form kind) u ≡ true → lines u ≡ take (width kind) u ∷ lines (drop (width kind) u)
 lines-step kind u h = rw (← marks-length kind) (lines-begins (marks kind) u (marks-lack-feed kind) (rw form-is at h))

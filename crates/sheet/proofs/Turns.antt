@@ -11,20 +11,15 @@ use lib.ListN.{length, getD, take, drop, set, length-append, length-drop, drop-o
 use lib.Seq.{take-all, drop-cons, drop-drop}
 use Rattle.sheet.specs.Digits.{digit, digitValue, hex, number, tab, lineFeed, valueFrom, valueOf}
 use Rattle.numbers.specs.Numbers.{inside}
-use Rattle.numbers.specs.Buffers.{laid}
-use Rattle.numbers.proofs.Laws.{ends-inside, length-laid, laid-last, laid-nil, laid-turn}
-use Rattle.sheet.specs.Lines.{name, fieldCount, numberForm, fieldForms, begins, fitsMark, numeral, fields, form, first, width, line, fitsLine, putLine}
+use Rattle.numbers.specs.Buffers.{laid, laidIf}
+use Rattle.numbers.proofs.Laws.{length-laid, laid-last, laid-nil, laid-turn}
+use Rattle.sheet.specs.Lines.{name, fieldCount, numberForm, fieldForms, begins, fitsMark, numeral, fields, form, first, width, lineOf, line, fitsLine, putLine}
 use Rattle.sheet.specs.declared.line.Line.{Line}
 use Rattle.sheet.specs.declared.digits.Numeral.the-variants.{Number, NoNumber}
-use Rattle.sheet.proofs.DigitLaws.{both, hex-length, number-length}
+use Rattle.sheet.proofs.DigitLaws.{hex-length, number-length}
 use Rattle.sheet.proofs.Fields.{fields-length, forms-length}
 use Rattle.sheet.proofs.FormLaws.{begins-room, begins-append, begins-take}
-use Rattle.sheet.proofs.LineLaws.{line-room}
-use borrow.Author.Tests.{eqb-true}
-
-not-so : (b : Bool) → (b ≡ true → ⊥) → b ≡ false
-not-so true other = absurd (other refl)
-not-so false other = refl
+use borrow.Author.Tests.{lt-leb, eq-eqb, ne-eqb}
 
 -- ---- a form against a text
 
@@ -61,9 +56,6 @@ fields-stand-end left u none = let zero-is : left ≡ 0 = omega arith in rw zero
 
 -- a line, as it is tested: its name, its fields, its line feed
 module _ (kind : Line) (u : List ℕ) where
-  pub line-short : length u < width kind → begins (form kind) u ≡ false
-  line-short short = not-so (begins (form kind) u) (λ h. let room = line-room kind u h in omega arith)
-
   pub line-tested : width kind ≤ length u
       → begins (form kind) u ≡ (begins (name kind) u && (begins (fieldForms (fieldCount kind)) (drop (first kind - 1) u) && eqb (getD u (width kind - 1) 0) lineFeed))
   unfolding form
@@ -72,12 +64,14 @@ module _ (kind : Line) (u : List ℕ) where
       let named : first kind - 1 ≡ length (name kind) = omega arith in
       let last : length (name kind) + 18 * n ≡ width kind - 1 = omega arith in
       begins-append (name kind) (fieldForms n ++ (lineFeed ∷ [])) u
-      ∙ rw (begins-append (fieldForms n) (lineFeed ∷ []) (drop (length (name kind)) u), forms-length n, drop-drop (18 * n) (length (name kind)) u, last, named,
-        feed-test u (width kind - 1) (omega arith))
-
--- no line stands in an empty text
-pub line-none : (kind : Line) → begins (form kind) [] ≡ false
-line-none kind = line-short kind [] (omega arith)
+      ∙ rw (
+        begins-append (fieldForms n) (lineFeed ∷ []) (drop (length (name kind)) u),
+        forms-length n,
+        drop-drop (18 * n) (length (name kind)) u,
+        last,
+        named,
+        feed-test u (width kind - 1) (omega arith),
+      )
 
 -- the part of a text from a place on, as the code lends it
 pub rest-whole : (text : List ℕ) (at : ℕ) → take (length text - at) (drop at text) ≡ drop at text
@@ -153,29 +147,48 @@ fields-end out at values i end = rw (drop-of-length-le values end) (laid-nil out
 
 -- ---- a line
 
-line-long : (kind : Line) (vs : List ℕ) → length (line kind vs) ≡ length (name kind) + (18 * length vs + 1)
-unfolding line
-line-long kind vs = rw (length-append (name kind) (fields vs ++ (lineFeed ∷ [])), length-append (fields vs) (lineFeed ∷ []), fields-length vs)
+module _ (named vs : List ℕ) where
+  pub line-long : length (lineOf named vs) ≡ length named + 18 * length vs + 1
+  line-long = rw (length-append named (fields vs ++ (lineFeed ∷ [])), length-append (fields vs) (lineFeed ∷ []), fields-length vs) (omega arith)
 
--- a line that is not put
-pub line-kept : (kind : Line) (vs out : List ℕ) (at : ℕ) → fitsLine kind (length vs) (length out) at ≡ false → out ≡ putLine kind vs out at
-unfolding putLine
-line-kept kind vs out at none = rw none
+  -- too long for its room
+  pub line-out : (out : List ℕ) (at : ℕ) → length out < at + (length named + 18 * length vs + 1) → inside (length out) at (length (lineOf named vs)) ≡ false
+  unfolding inside
+  line-out out at long = rw line-long (lt-leb (at + (length named + 18 * length vs + 1)) (length out) long)
 
-pub fits-parts : (kind : Line) (count lent at : ℕ) → fitsLine kind count lent at ≡ true → (count ≡ fieldCount kind) × (at + width kind ≤ lent)
-unfolding fitsLine
-fits-parts kind count lent at h =
-    let parts = both (eqb count (fieldCount kind)) (inside lent at (width kind)) h in
-    (eqb-true count (fieldCount kind) (parts .0), ends-inside lent at (width kind) (parts .1))
+  -- as it is laid: its name, its fields, the line feed
+  pub line-laid : (out : List ℕ) (at : ℕ) → at + (length named + 18 * length vs + 1) ≤ length out
+      → laid (laid (laid out at named) (at + length named) (fields vs)) (at + (length named + 18 * length vs)) (lineFeed ∷ []) ≡ laid out at (lineOf named vs)
+  line-laid out at room =
+      let kept : length (laid out at named) ≡ length out = length-laid out at named (omega arith) in
+      let ended : at + (length named + 18 * length vs) ≡ at + length named + length (fields vs) = rw (fields-length vs) (omega arith) in
+      let fits : at + length named + length (fields vs) ≤ length (laid out at named) = rw (kept, fields-length vs) (omega arith) in
+      rw (ended, laid-turn out at named (fields vs ++ (lineFeed ∷ [])) (omega arith), laid-turn (laid out at named) (at + length named) (fields vs) (lineFeed ∷ []) fits)
 
--- a line that is put, as it is laid: its name, its fields, the line feed
-pub line-laid : (kind : Line) (vs out : List ℕ) (at : ℕ) → fitsLine kind (length vs) (length out) at ≡ true
-    → laid (laid (laid out at (name kind)) (at + (first kind - 1)) (fields vs)) (at + (width kind - 1)) (lineFeed ∷ []) ≡ putLine kind vs out at
-unfolding putLine line
-line-laid kind vs out at h =
-    let parts = fits-parts kind (length vs) (length out) at h in
-    let named : at + (first kind - 1) ≡ at + length (name kind) = omega arith in
-    let ended : at + (width kind - 1) ≡ at + length (name kind) + length (fields vs) = rw (fields-length vs) (omega (arith, parts .0)) in
-    let kept : length (laid out at (name kind)) ≡ length out = length-laid out at (name kind) (omega (arith, parts .1)) in
-    let room : at + length (name kind) + length (fields vs) ≤ length (laid out at (name kind)) = rw (kept, fields-length vs) (omega (arith, parts .0, parts .1)) in
-    rw (h, named, ended, laid-turn out at (name kind) (fields vs ++ (lineFeed ∷ [])) (omega (arith, parts .1)), laid-turn (laid out at (name kind)) (at + length (name kind)) (fields vs) (lineFeed ∷ []) room)
+-- a line of a kind that has its count of numbers, and one that has not
+module _ (kind : Line) (vs out : List ℕ) (at : ℕ) where
+  own-count : length vs ≡ fieldCount kind → inside (length out) at (length (lineOf (name kind) vs)) ≡ fitsLine kind (length vs) (length out) at
+  unfolding fitsLine
+  own-count count =
+      let wide : length (lineOf (name kind) vs) ≡ width kind = line-long (name kind) vs ∙ rw count (omega arith) in
+      rw (wide, eq-eqb (length vs) (fieldCount kind) count)
+
+  own-line : length vs ≡ fieldCount kind → laidIf out at (lineOf (name kind) vs) ≡ putLine kind vs out at
+  unfolding laidIf putLine line
+  own-line count = rw (own-count count)
+
+  pub other-count : (length vs ≡ fieldCount kind → ⊥) → fitsLine kind (length vs) (length out) at ≡ false
+  unfolding fitsLine
+  other-count other = rw (ne-eqb (length vs) (fieldCount kind) other)
+
+  pub line-kept : (length vs ≡ fieldCount kind → ⊥) → putLine kind vs out at ≡ out
+  unfolding putLine
+  line-kept other = rw (other-count other)
+
+-- a line of a kind that was told, written by its name
+pub line-told : (kind told : Line) → kind ≡ told → (vs out : List ℕ) (at : ℕ) → length vs ≡ fieldCount kind → (wrote : Bool) (after : List ℕ)
+    → wrote ≡ inside (length out) at (length (lineOf (name told) vs)) → after ≡ laidIf out at (lineOf (name told) vs)
+    → (wrote ≡ fitsLine kind (length vs) (length out) at) × (after ≡ putLine kind vs out at)
+line-told kind told same vs out at count wrote after wrote-is after-is =
+    let own : length vs ≡ fieldCount told = count ∙ ap fieldCount same in
+    rw same ((wrote-is ∙ own-count told vs out at own, after-is ∙ own-line told vs out at own))

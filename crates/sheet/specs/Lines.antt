@@ -38,8 +38,36 @@ unfoldable pub fields : List ℕ → List ℕ
 fields [] = []
 fields (v ∷ vs) = tab ∷ (number v ++ fields vs)
 
+-- a line of any name
+abbrev pub lineOf : List ℕ → List ℕ → List ℕ
+lineOf named vs = named ++ (fields vs ++ (lineFeed ∷ []))
+
 unfoldable pub line : Line → List ℕ → List ℕ
-line kind vs = name kind ++ (fields vs ++ (lineFeed ∷ []))
+line kind vs = lineOf (name kind) vs
+
+-- ---- where its numbers stand, and how long it is
+
+-- how long a number is with the tab before it: tab, letter x, 16 digits
+abbrev pub fieldBytes : ℕ
+fieldBytes = 18
+
+-- where the first number of a line of a kind begins; the next is a field further
+abbrev pub first : Line → ℕ
+first kind = length (name kind) + 1
+
+-- how long every line of a kind is
+abbrev pub width : Line → ℕ
+width kind = first kind + fieldBytes * fieldCount kind
+
+-- ---- writing a line into a text
+
+-- as many numbers as this kind has, and room for the line at this place of a text of this length
+unfoldable pub fitsLine : Line → ℕ → ℕ → ℕ → Bool
+fitsLine kind count lent at = eqb count (fieldCount kind) && inside lent at (width kind)
+
+-- the text with the line, or as it was
+unfoldable pub putLine : Line → List ℕ → List ℕ → ℕ → List ℕ
+putLine kind vs text at = cond (fitsLine kind (length vs) (length text) at) (laid text at (line kind vs)) text
 
 -- ---- a text and its lines
 
@@ -87,18 +115,6 @@ begins (mark ∷ marks) (c ∷ cs) = fitsMark mark c && begins marks cs
 unfoldable pub numeral : List ℕ → Numeral
 numeral u = cond (begins numberForm u) (Number (valueOf (take digits (drop 1 u)))) NoNumber
 
--- how long a number is with the tab before it
-abbrev pub fieldBytes : ℕ
-fieldBytes = 18
-
--- where the first number of a line of a kind begins; the next is a field further
-abbrev pub first : Line → ℕ
-first kind = length (name kind) + 1
-
--- how long every line of a kind is
-abbrev pub width : Line → ℕ
-width kind = first kind + fieldBytes * fieldCount kind
-
 -- a line is of a kind: it has the form, to its last byte
 unfoldable pub isLine : Line → List ℕ → Bool
 isLine kind l = begins (form kind) l && eqb (length l) (width kind)
@@ -111,13 +127,3 @@ valuesIn (suc n) cs = valueOf (take digits (drop 2 cs)) ∷ valuesIn n (drop fie
 -- the numbers of a line
 unfoldable pub values : Line → List ℕ → List ℕ
 values kind l = valuesIn (fieldCount kind) (drop (length (name kind)) l)
-
--- ---- writing a line into a text
-
--- a line of a kind with so many numbers is one, and has its room at a place of a text of this length
-unfoldable pub fitsLine : Line → ℕ → ℕ → ℕ → Bool
-fitsLine kind count lent at = eqb count (fieldCount kind) && inside lent at (width kind)
-
--- the text with the line, or as it was
-unfoldable pub putLine : Line → List ℕ → List ℕ → ℕ → List ℕ
-putLine kind vs text at = cond (fitsLine kind (length vs) (length text) at) (laid text at (line kind vs)) text

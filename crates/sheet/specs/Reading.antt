@@ -6,7 +6,7 @@ use mathlib.Core.Bool.{Bool, not, cond, _&&_}
 use mathlib.Core.List.{List, [], _∷_, _++_}
 use lib.ListN.{length, getD, take, drop}
 use lib.Dec.{eqb, leb}
-use Rattle.pages.specs.Pages.{pageOf, frameOf}
+use Rattle.pages.specs.Pages.{pageOf, pageNumber}
 use Rattle.numbers.specs.Numbers.{littleBytes}
 use Rattle.sheet.specs.Lines.{isLine, values, lines}
 use Rattle.sheet.specs.Sheets.{Page, Saved, slots, version}
@@ -47,11 +47,11 @@ pastPlain kind ls = drop (plainCount kind ls) ls
 
 -- ---- pages
 
--- how many lines are pages in ascending order, none below the frame `least`
+-- how many lines are pages in ascending order, none below the page number `least`
 unfoldable pub pageCount : ℕ → List (List ℕ) → ℕ
 pageCount least [] = 0
 pageCount least (l ∷ ls) =
-    cond (isLine PageLine l && leb least (frameOf (value PageLine 0 l))) (suc (pageCount (suc (frameOf (value PageLine 0 l))) ls)) 0
+    cond (isLine PageLine l && leb least (pageNumber (value PageLine 0 l))) (suc (pageCount (suc (pageNumber (value PageLine 0 l))) ls)) 0
 
 -- ---- words: the pages' addresses are walked 8 by 8, and the next line is taken where it is this address's. A line that is out of order, off
 -- its 8, on no page or 0 is none's, and left over.

@@ -6,7 +6,7 @@ use mathlib.Core.Bool.{cond}
 use mathlib.Core.List.{List, [], _∷_, _++_}
 use lib.ListN.{length, take, drop}
 use lib.Dec.{eqb, leb}
-use Rattle.pages.specs.Pages.{pageBytes, pageOf, frameOf}
+use Rattle.pages.specs.Pages.{pageBytes, pageOf, pageNumber}
 use Rattle.numbers.specs.Numbers.{numberAt}
 use Rattle.sheet.specs.Digits.{Below}
 use Rattle.sheet.specs.Lines.{fieldCount, line, joined}
@@ -26,10 +26,10 @@ pub record Saved : Type 0 where
   pub pages : List Page
   pub words : List ℕ
 
--- pages strictly ascending by address, none below the frame `least`
+-- pages strictly ascending by address, none below the page number `least`
 unfoldable pub Ascending : ℕ → List Page → Type 0
 Ascending least [] = Unit {0}
-Ascending least (p ∷ ps) = (least ≤ frameOf (p .entry)) × Ascending (suc (frameOf (p .entry))) ps
+Ascending least (p ∷ ps) = (least ≤ pageNumber (p .entry)) × Ascending (suc (pageNumber (p .entry))) ps
 
 -- a page's entry has 64 bits; there are 4,096 bytes of 8 bits
 pub record WholePage (p : Page) : Type 0 where
@@ -67,7 +67,7 @@ wordLines address (suc n) bytes = wordLine address (numberAt bytes 0 8) ++ wordL
 
 -- how many values of 8 bytes a page has
 abbrev pub slots : ℕ
-slots = 512
+slots = pageBytes / 8
 
 abbrev pub pageWords : Page → List (List ℕ)
 pageWords p = wordLines (pageOf (p .entry)) slots (p .bytes)
@@ -113,7 +113,7 @@ pagesOf (entry ∷ entries) bytes = record { entry = entry; bytes = take pageByt
 -- a page put before the first that has no smaller address
 unfoldable pub insert : Page → List Page → List Page
 insert p [] = p ∷ []
-insert p (q ∷ qs) = cond (leb (frameOf (p .entry)) (frameOf (q .entry))) (p ∷ q ∷ qs) (q ∷ insert p qs)
+insert p (q ∷ qs) = cond (leb (pageNumber (p .entry)) (pageNumber (q .entry))) (p ∷ q ∷ qs) (q ∷ insert p qs)
 
 -- the pages in ascending order
 unfoldable pub ascended : List Page → List Page

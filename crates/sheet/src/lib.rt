@@ -8,6 +8,7 @@ pub use digits::Numeral;
 pub use digits::number;
 pub use forms::FIELD;
 pub use line::Line;
+pub use put::put_line;
 
 // The newest version of a sheet.
 pub const VERSION: u64 = 1;

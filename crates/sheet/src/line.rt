@@ -1,4 +1,4 @@
-// The kinds of line that a sheet has, and where one stands in a text. A further kind is a case here, and in `put_name`.
+// The kinds of line that a sheet has, and where one stands in a text. A further kind is a case here, and in `put`.
 ghost use mathlib.Core.Path.{_≡_};
 ghost use lib.ListN.{drop};
 ghost use Rattle.sheet.specs.Lines.{name as nameOf, fieldCount, first as firstOf, width as widthOf, form, begins as beginsWith};

@@ -3,9 +3,10 @@ ghost use mathlib.Core.Path.{_≡_};
 ghost use mathlib.Core.List.{_∷_};
 ghost use Prim.Native.Nat.{_+_, _≤_};
 ghost use lib.ListN.{length};
-ghost use Rattle.numbers.specs.Buffers.{laid};
+ghost use Rattle.numbers.specs.Numbers.{inside};
+ghost use Rattle.numbers.specs.Buffers.{laid, laidIf};
 ghost use Rattle.sheet.specs.Digits.{hex, number, tab};
-ghost use Rattle.sheet.specs.Lines.{name, fields as fieldsOf, fitsLine, putLine};
+ghost use Rattle.sheet.specs.Lines.{fields as fieldsOf, lineOf, fitsLine, putLine};
 use crate::digits::DIGITS;
 use crate::digits::digit;
 use crate::forms::FIELD;
@@ -47,43 +48,41 @@ fn put_fields(values: &[u64], text: &mut [u8], at: usize)
     }
 }
 
+// Writes a line of any name with these numbers from a place on, or nothing where it does not fit; and says which.
+pub fn put_line(name: &[u8], values: &[u64], text: &mut [u8], at: usize) -> bool
+    ensures told { λ r. ⌜ r ≡ inside (length (now (text .entry))) at (length (lineOf (now (name .entry)) (now (values .entry)))) ⌝ }
+    ensures put { λ _. ⌜ now (text .exit) ≡ laidIf (now (text .entry)) at (lineOf (now (name .entry)) (now (values .entry))) ⌝ }
+{
+    // A quotient, since the product of a long list could wrap.
+    if text.len() / FIELD < values.len() {
+        return false;
+    }
+    let ended = name.len() + FIELD * values.len();
+    if !has_room(text.len(), at, ended + 1) {
+        return false;
+    }
+    copy_bytes(name, text, at);
+    put_fields(values, text, at + name.len());
+    copy_bytes(b"\n", text, at + ended);
+    true
+}
+
 impl Line {
-    // Writes its name.
-    fn put_name(self, text: &mut [u8], at: usize)
-        requires { ⌜ at + length (name self) ≤ length (now text) ⌝ }
-        ensures { λ _. ⌜ now (text .exit) ≡ laid (now (text .entry)) at (name self) ⌝ }
-    {
-        match self {
-            Line::Sheet => copy_bytes(b"sheet", text, at),
-            Line::State => copy_bytes(b"state", text, at),
-            Line::Page => copy_bytes(b"page", text, at),
-            Line::Word => copy_bytes(b"word", text, at),
-            Line::Do => copy_bytes(b"do", text, at),
-        };
-    }
-
-    // Whether a line with so many numbers is one of this kind and has its room at a place of a text of this length.
-    fn fits(self, count: usize, lent: usize, at: usize) -> bool
-        ensures { λ r. ⌜ r ≡ fitsLine self count lent at ⌝ }
-    {
-        if count != self.count() {
-            return false;
-        }
-        has_room(lent, at, self.width())
-    }
-
     // Writes a line with these numbers from a place on, or nothing where they are not as many as such a line has, or it does not fit; and
     // says which.
     pub fn put(self, values: &[u64], text: &mut [u8], at: usize) -> bool
         ensures told { λ r. ⌜ r ≡ fitsLine self (length (now (values .entry))) (length (now (text .entry))) at ⌝ }
         ensures put { λ _. ⌜ now (text .exit) ≡ putLine self (now (values .entry)) (now (text .entry)) at ⌝ }
     {
-        if !self.fits(values.len(), text.len(), at) {
+        if values.len() != self.count() {
             return false;
         }
-        self.put_name(text, at);
-        put_fields(values, text, at + (self.first() - 1));
-        copy_bytes(b"\n", text, at + (self.width() - 1));
-        true
+        match self {
+            Line::Sheet => put_line(b"sheet", values, text, at),
+            Line::State => put_line(b"state", values, text, at),
+            Line::Page => put_line(b"page", values, text, at),
+            Line::Word => put_line(b"word", values, text, at),
+            Line::Do => put_line(b"do", values, text, at),
+        }
     }
 }

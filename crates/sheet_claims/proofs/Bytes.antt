@@ -1,14 +1,14 @@
 -- Lists of small numbers, and a number and its bytes. Assumes nothing.
 use Prim.Native.Nat.{ℕ, zero, suc, _+_, _*_, _/_, _%_, _^_, _<_, _≤_}
 use mathlib.Core.List.{List, [], _∷_, _++_}
-use mathlib.Core.Path.{_≡_, refl, ap}
+use mathlib.Core.Path.{_≡_, refl, sym, ap}
 use native.Mathlib.Nat.{pow-suc}
 use native.Mathlib.Omega.{arith}
 use lib.ListN.{length, take, drop}
 use lib.Seq.{getD-drop}
 use Rattle.sheet.specs.Digits.{Below}
-use Rattle.sheet.specs.Sheets.{little}
-use Rattle.sheet.specs.Reading.{littleBytes}
+use Rattle.numbers.specs.Numbers.{numberAt, littleBytes}
+use Rattle.numbers.proofs.Laws.{number-drop, number-below}
 
 -- ---- every element below a bound
 
@@ -46,35 +46,31 @@ module _ (bound : ℕ) where
 
 -- ---- a number and its bytes
 
-pub little-below : (n : ℕ) (bytes : List ℕ) → Below 256 bytes → little n bytes < 256 ^ n
-unfolding little Below
-little-below zero bytes small = omega arith
-little-below (suc n) bytes small =
-    let first = small 0 in
-    let rest = little-below n (drop 1 bytes) (below-drop 256 1 bytes small) in
-    rw pow-suc (omega arith)
+-- the first byte, and those behind it
+number-cons : (b : ℕ) (bytes : List ℕ) (n : ℕ) → numberAt (b ∷ bytes) 0 (suc n) ≡ b + 256 * numberAt bytes 0 n
+unfolding numberAt
+number-cons b bytes n = ap (λ (rest : ℕ). b + 256 * rest) (sym (number-drop (b ∷ bytes) 1 n))
 
-pub bytes-of-little : (n : ℕ) (bytes : List ℕ) → n ≤ length bytes → Below 256 bytes → littleBytes n (little n bytes) ≡ take n bytes
-unfolding little littleBytes
+pub little-below : (n : ℕ) (bytes : List ℕ) → Below 256 bytes → numberAt bytes 0 n < 256 ^ n
+unfolding Below
+little-below n bytes small = number-below bytes 0 n small
+
+pub bytes-of-little : (n : ℕ) (bytes : List ℕ) → n ≤ length bytes → Below 256 bytes → littleBytes n (numberAt bytes 0 n) ≡ take n bytes
+unfolding littleBytes
 bytes-of-little zero bytes long small = refl
 bytes-of-little (suc n) [] long small = absurd (omega arith)
 bytes-of-little (suc n) (b ∷ bytes) long small =
     let first = below-first 256 b bytes small in
-    let low : (b + 256 * little n bytes) % 256 ≡ b = omega arith in
-    let high : (b + 256 * little n bytes) / 256 ≡ little n bytes = omega arith in
-    rw (low, high, bytes-of-little n bytes (omega arith) (below-rest 256 b bytes small))
+    let low : (b + 256 * numberAt bytes 0 n) % 256 ≡ b = omega arith in
+    let high : (b + 256 * numberAt bytes 0 n) / 256 ≡ numberAt bytes 0 n = omega arith in
+    rw (number-cons b bytes n, low, high, bytes-of-little n bytes (omega arith) (below-rest 256 b bytes small))
 
-pub little-of-bytes : (n v : ℕ) (rest : List ℕ) → v < 256 ^ n → little n (littleBytes n v ++ rest) ≡ v
-unfolding little littleBytes
-little-of-bytes zero v rest small = omega arith
+pub little-of-bytes : (n v : ℕ) (rest : List ℕ) → v < 256 ^ n → numberAt (littleBytes n v ++ rest) 0 n ≡ v
+unfolding littleBytes
+little-of-bytes zero v rest small = unfold numberAt in omega arith
 little-of-bytes (suc n) v rest small =
     let more = rw pow-suc at small in
-    rw (little-of-bytes n (v / 256) rest (omega arith)) (omega arith)
-
-pub length-little-bytes : (n v : ℕ) → length (littleBytes n v) ≡ n
-unfolding littleBytes
-length-little-bytes zero v = refl
-length-little-bytes (suc n) v = ap suc (length-little-bytes n (v / 256))
+    rw (number-cons (v % 256) (littleBytes n (v / 256) ++ rest) n, little-of-bytes n (v / 256) rest (omega arith)) (omega arith)
 
 pub below-little-bytes : (n v : ℕ) → Below 256 (littleBytes n v)
 unfolding littleBytes

@@ -6,7 +6,7 @@ use mathlib.Core.Path.{_≡_, refl, sym, ap, ap₂}
 use native.Mathlib.Omega.{arith}
 use Rattle.memory.specs.Extends.{HoldsPages}
 use Rattle.sheet.specs.Sheets.{Page, Ascending, pagesOf, ascended, savedOf, text}
-use Rattle.pages.specs.Pages.{frameOf}
+use Rattle.pages.specs.Pages.{pageNumber}
 use Rattle.sheet_claims.specs.EqualMeaning.{EqualText, EqualWrites}
 use Rattle.replay.specs.Run.{checkBy}
 use Rattle.sheet_write.specs.Writes.{writes}
@@ -15,28 +15,28 @@ use Rattle.sheet_claims.proofs.Ordered.{Every, every-map, every-mem, ev
 
 -- ---- two strictly ascending lists of the same pages are one list
 
-not-below : (least : ℕ) (ps : List Page) → Ascending least ps → (p : Page) → List·Memᴰ p ps → least ≤ frameOf (p .entry)
-not-below least ps up p m = every-mem (λ q. least ≤ frameOf (q .entry)) (ascending-every (λ q. least ≤ frameOf (q .entry)) least ps (λ q h. h) up) m
+not-below : (least : ℕ) (ps : List Page) → Ascending least ps → (p : Page) → List·Memᴰ p ps → least ≤ pageNumber (p .entry)
+not-below least ps up p m = every-mem (λ q. least ≤ pageNumber (q .entry)) (ascending-every (λ q. least ≤ pageNumber (q .entry)) least ps (λ q h. h) up) m
 
 -- pages above one that are among it and others are among the others
-among-others : (q : Page) (least : ℕ) (ps qs : List Page) → frameOf (q .entry) < least → Ascending least ps → Every (λ r. List·Memᴰ r (q ∷ qs)) ps → Every (λ r. List·Memᴰ r qs) ps
+among-others : (q : Page) (least : ℕ) (ps qs : List Page) → pageNumber (q .entry) < least → Ascending least ps → Every (λ r. List·Memᴰ r (q ∷ qs)) ps → Every (λ r. List·Memᴰ r qs) ps
 unfolding Ascending
 among-others q least [] qs high up all = tt
-among-others q least (p ∷ ps) qs high up all = (by (List·Memᴰ·cases-cons (all .0)), among-others q (suc (frameOf (p .entry))) ps qs (let low = up .0 in omega arith) (up .1) (all .1))
+among-others q least (p ∷ ps) qs high up all = (by (List·Memᴰ·cases-cons (all .0)), among-others q (suc (pageNumber (p .entry))) ps qs (let low = up .0 in omega arith) (up .1) (all .1))
   where
     by : (p ≡ q) ⊎ List·Memᴰ p qs → List·Memᴰ p qs
-    by (inl e) = let low : least ≤ frameOf (q .entry) = rw e at (up .0) in absurd (omega arith)
+    by (inl e) = let low : least ≤ pageNumber (q .entry) = rw e at (up .0) in absurd (omega arith)
     by (inr m) = m
 
-first-same : (p q : Page) (ps qs : List Page) → Ascending (suc (frameOf (p .entry))) ps → Ascending (suc (frameOf (q .entry))) qs → List·Memᴰ p (q ∷ qs) → List·Memᴰ q (p ∷ ps) → p ≡ q
+first-same : (p q : Page) (ps qs : List Page) → Ascending (suc (pageNumber (p .entry))) ps → Ascending (suc (pageNumber (q .entry))) qs → List·Memᴰ p (q ∷ qs) → List·Memᴰ q (p ∷ ps) → p ≡ q
 first-same p q ps qs up-p up-q m n = by (List·Memᴰ·cases-cons m) (List·Memᴰ·cases-cons n)
   where
     by : (p ≡ q) ⊎ List·Memᴰ p qs → (q ≡ p) ⊎ List·Memᴰ q ps → p ≡ q
     by (inl e) there = e
     by (inr k) (inl e) = sym e
     by (inr k) (inr j) =
-        let above = not-below (suc (frameOf (q .entry))) qs up-q p k in
-        let below = not-below (suc (frameOf (p .entry))) ps up-p q j in
+        let above = not-below (suc (pageNumber (q .entry))) qs up-q p k in
+        let below = not-below (suc (pageNumber (p .entry))) ps up-p q j in
         absurd (omega arith)
 
 same-pages : (least : ℕ) (ps qs : List Page) → Ascending least ps → Ascending least qs → Every (λ r. List·Memᴰ r qs) ps → Every (λ r. List·Memᴰ r ps) qs → ps ≡ qs
@@ -46,10 +46,10 @@ same-pages least [] (q ∷ qs) up-p up-q there back = absurd (List·Memᴰ·not-
 same-pages least (p ∷ ps) [] up-p up-q there back = absurd (List·Memᴰ·not-nil (there .0))
 same-pages least (p ∷ ps) (q ∷ qs) up-p up-q there back =
     let same = first-same p q ps qs (up-p .1) (up-q .1) (there .0) (back .0) in
-    let frame : frameOf (p .entry) ≡ frameOf (q .entry) = ap (λ (r : Page). frameOf (r .entry)) same in
+    let page-number : pageNumber (p .entry) ≡ pageNumber (q .entry) = ap (λ (r : Page). pageNumber (r .entry)) same in
     ap₂ (λ (r : Page) (rs : List Page). r ∷ rs) same
-    (same-pages (suc (frameOf (p .entry))) ps qs (up-p .1) (rw frame (up-q .1)) (among-others q (suc (frameOf (p .entry))) ps qs (omega arith) (up-p .1) (there .1))
-    (among-others p (suc (frameOf (q .entry))) qs ps (omega arith) (up-q .1) (back .1)))
+    (same-pages (suc (pageNumber (p .entry))) ps qs (up-p .1) (rw page-number (up-q .1)) (among-others q (suc (pageNumber (p .entry))) ps qs (omega arith) (up-p .1) (there .1))
+    (among-others p (suc (pageNumber (q .entry))) qs ps (omega arith) (up-q .1) (back .1)))
 
 -- ---- the lent pages
 

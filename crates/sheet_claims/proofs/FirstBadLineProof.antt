@@ -8,14 +8,14 @@ use native.Mathlib.Omega.{arith}
 use lib.ListN.{length, getD, take, drop, replicate, take-append-drop}
 use lib.Seq.{append-snoc, getD-take, getD-drop, take-append-add, take-append-seam, take-length}
 use Rattle.sheet.specs.Digits.{Below}
-use Rattle.sheet.specs.Lines.{line, isLine, lines}
+use Rattle.sheet.specs.Lines.{fieldCount, line, isLine, lines}
 use Rattle.sheet.specs.Sheets.{Saved, Sheeted, Ascending, WholePages, version, sheetLines, text}
-use Rattle.sheet.specs.Reading.{next, isHead, Stages, stages, parsed}
+use Rattle.sheet.specs.Reading.{next, Stages, stages, parsed}
 use Rattle.sheet.specs.declared.line.Line.the-variants.{Sheet, State}
 use Rattle.sheet.proofs.LineLaws.{is-line-line}
 use Rattle.sheet_claims.specs.FirstBadLine.{FromOne, Before, NotHere}
 use Rattle.sheet_claims.proofs.Bytes.{below-none, below-cons}
-use Rattle.sheet_claims.proofs.LineKinds.{head-read}
+use Rattle.sheet_claims.proofs.LineKinds.{isHead, head-read}
 use Rattle.sheet_claims.proofs.LookAhead.{stages-stop}
 use Rattle.sheet_claims.proofs.Outcomes.{Outcome, no-head, no-state, whole, stopped, outcome}
 use Rattle.sheet_claims.proofs.SheetLines.{lines-of-text}
@@ -43,7 +43,7 @@ blank = record { state = replicate 10 0; pages = []; words = [] }
 
 blank-sheeted : Sheeted blank
 unfolding blank Ascending WholePages
-blank-sheeted = record { fields = refl; state = zeros 10; ascending = tt; pages = tt; whole = refl; words = below-none (2 ^ 64) (omega arith) }
+blank-sheeted = record { fields = refl; state = zeros (fieldCount State); ascending = tt; pages = tt; whole = refl; words = below-none (2 ^ 64) (omega arith) }
 
 pub before : Before
 unfolding parsed sheetLines

@@ -1,36 +1,37 @@
 -- Reading and writing undo each other, of what the contracts give: from the round trips of sheets and the laws between buffers and sheets.
 -- Assumes nothing.
 use Prim.Native.Nat.{ℕ, _+_, _/_}
-use mathlib.Core.Path.{_≡_, refl, ap}
-use mathlib.Core.Bool.{Bool, true, false, cond, true≢false}
-use mathlib.Core.List.{List}
+use mathlib.Core.Path.{_≡_, refl, sym, ap, _∙_}
+use mathlib.Core.Bool.{Bool, true, false, cond}
+use mathlib.Core.List.{List, List·Memᴰ}
 use native.Mathlib.Omega.{arith}
 use lib.ListN.{length, take, drop}
 use lib.Seq.{take-at}
-use lib.Dec.{eqb, leb}
-use borrow.Author.Tests.{eqb-true, eq-eqb}
+use lib.Dec.{leb}
 use Rattle.pages.proofs.Laws.{valid-list, list-valid}
-use Rattle.processor.specs.State.{inRange}
-use Rattle.processor.specs.Layout.{stateOf}
+use Rattle.memory.specs.Extends.{HoldsPages}
+use Rattle.processor.specs.Layout.{fields, goodState}
+use Rattle.processor.proofs.Layouts.{good-fields}
 use Rattle.replay.specs.Run.{checkBy}
 use Rattle.replay.specs.declared.steps.Tested.{Tested}
 use Rattle.replay.specs.declared.steps.Tested.the-variants.{Passed, Failed}
 use Rattle.numbers.specs.Buffers.{laid}
-use Rattle.sheet.specs.Sheets.{Saved, savedOf, entriesOf, bytesOf, text}
+use Rattle.sheet.specs.Sheets.{Page, Saved, WholePages, pagesOf, ascended, savedOf, entriesOf, bytesOf, text}
 use Rattle.sheet.specs.Reading.{Parsed, sheet, noSheet, parsed}
-use Rattle.sheet.proofs.DigitLaws.{both}
 use Rattle.sheet.proofs.TestedLaws.{Passes, passes, passed}
-use Rattle.sheet_read.specs.Reads.{Buffers, Read, byTest, byText, tested, fits, filled, sizesOf, reads}
+use Rattle.sheet_read.specs.Reads.{readNumber, Buffers, Read, byTest, byText, tested, fits, filled, sizesOf, reads}
 use Rattle.sheet_read.specs.declared.buffers.Sizes.{Sizes}
 use Rattle.sheet_read.specs.declared.buffers.Reading.the-variants.{Done as ReadDone, TooLong as ReadTooLong}
-use Rattle.sheet_write.specs.Writes.{Written, byTest as writtenByTest, goodState, printed, writes}
+use Rattle.sheet_write.specs.Writes.{writeNumber, Written, byTest as writtenByTest, printed, writes}
 use Rattle.sheet_write.specs.declared.text.Writing.the-variants.{Done as WriteDone, TooLong as WriteTooLong}
 use Rattle.sheet_write.specs.Laying.{textLength}
 use Rattle.sheet_write.proofs.Sizes.{text-size, nonzeros-most}
 use Rattle.sheet_claims.specs.RoundTrips.{SavedSheeted}
-use Rattle.sheet_claims.specs.LentBuffers.{LongestText, WrittenRead, ReadWritten, ReadUntouched, WriteUntouched, readDone, writeDone}
+use Rattle.sheet_claims.specs.LentBuffers.{LongestText, WrittenRead, PagesReadBack, ReadWritten, ReadUntouched, WriteUntouched}
 use Rattle.sheet_claims.proofs.RoundTripsProof.{reads-back, writes-back}
-use Rattle.sheet_claims.proofs.SavedLaws.{lent-sheeted, ascended-valid, saved-back}
+use Rattle.sheet_claims.proofs.SavedLaws.{lent-sheeted, ascended-valid, pages-back, saved-back}
+use Rattle.sheet_claims.proofs.LentPages.{held-lent}
+use Rattle.sheet_claims.proofs.Ordered.{every-map, every-self, every-ascended, mem-ascended}
 
 -- what was laid at the front of a buffer is its front
 front : (out piece : List ℕ) (n : ℕ) → length piece ≡ n → take n (laid out 0 piece) ≡ piece
@@ -59,11 +60,11 @@ write-was Passed whole out long e =
     record { good = refl; whole-long = was .0; left = was .1 }
 write-was (Failed refusal) whole out long e = let z : _≡_ {A = ℕ} 0 1 = cc in absurd (omega arith)
 
-printed-untouched : (fits : Bool) (whole out : List ℕ) → writeDone ((printedIf fits whole out) .answer) ≡ false → (printedIf fits whole out) .text ≡ out
-printed-untouched true whole out e = absurd (true≢false e)
+printed-untouched : (fits : Bool) (whole out : List ℕ) → (writeNumber ((printedIf fits whole out) .answer) ≡ 0 → ⊥) → (printedIf fits whole out) .text ≡ out
+printed-untouched true whole out e = absurd (e refl)
 printed-untouched false whole out e = refl
 
-untouched-by : (test : Tested) (whole out : List ℕ) → writeDone ((writtenByTest test whole out) .answer) ≡ false → (writtenByTest test whole out) .text ≡ out
+untouched-by : (test : Tested) (whole out : List ℕ) → (writeNumber ((writtenByTest test whole out) .answer) ≡ 0 → ⊥) → (writtenByTest test whole out) .text ≡ out
 unfolding printed
 untouched-by Passed whole out e = printed-untouched (leb (length whole) (length out)) whole out e
 untouched-by (Failed refusal) whole out e = refl
@@ -104,15 +105,15 @@ read-was t lent sizes e = by (parsed t) refl e
         record { saved = s; from = same; good = was .0; long = was .1; left = rw same (was .2) }
     by (noSheet line) same done = let z : _≡_ {A = ℕ} 0 1 = cc in absurd (omega arith)
 
-fit-untouched : (fit : Bool) (s : Saved) (lent : Buffers) → readDone ((readIf fit s lent) .answer) ≡ false → (readIf fit s lent) .buffers ≡ lent
-fit-untouched true s lent e = absurd (true≢false e)
+fit-untouched : (fit : Bool) (s : Saved) (lent : Buffers) → (readNumber ((readIf fit s lent) .answer) ≡ 0 → ⊥) → (readIf fit s lent) .buffers ≡ lent
+fit-untouched true s lent e = absurd (e refl)
 fit-untouched false s lent e = refl
 
-test-untouched : (test : Tested) (s : Saved) (lent : Buffers) → readDone ((byTest test s lent) .answer) ≡ false → (byTest test s lent) .buffers ≡ lent
+test-untouched : (test : Tested) (s : Saved) (lent : Buffers) → (readNumber ((byTest test s lent) .answer) ≡ 0 → ⊥) → (byTest test s lent) .buffers ≡ lent
 test-untouched Passed s lent e = fit-untouched (fits s lent) s lent e
 test-untouched (Failed refusal) s lent e = refl
 
-text-untouched : (p : Parsed) (lent : Buffers) → readDone ((byText p lent) .answer) ≡ false → (byText p lent) .buffers ≡ lent
+text-untouched : (p : Parsed) (lent : Buffers) → (readNumber ((byText p lent) .answer) ≡ 0 → ⊥) → (byText p lent) .buffers ≡ lent
 text-untouched (sheet s) lent e = test-untouched (tested s) s lent e
 text-untouched (noSheet line) lent e = refl
 
@@ -123,17 +124,16 @@ read-untouched t lent e = text-untouched (parsed t) lent e
 -- ---- what was written is read
 
 pub saved-sheeted : SavedSheeted
-unfolding goodState
 saved-sheeted state pages bytes words small-state small-pages small-bytes small-words e =
     let has = passes pages (length bytes) (goodState state) (length words) e in
-    let ten : length state ≡ 10 = eqb-true (length state) 10 (both (eqb (length state) 10) (inRange (stateOf state)) (has .state) .0) in
+    let ten : length state ≡ fields = good-fields state (has .state) in
     lent-sheeted pages bytes (list-valid pages (length bytes) (has .list)) state words ten small-state small-pages small-bytes (has .whole) small-words
 
 pub longest-text : LongestText
-unfolding goodState textLength
+unfolding textLength
 longest-text state pages bytes words e =
     let has = passes pages (length bytes) (goodState state) (length words) e in
-    let ten : length state ≡ 10 = eqb-true (length state) 10 (both (eqb (length state) 10) (inRange (stateOf state)) (has .state) .0) in
+    let ten : length state ≡ fields = good-fields state (has .state) in
     let whole = has .list .whole in
     let few = has .list .few in
     let steps = has .few in
@@ -142,13 +142,13 @@ longest-text state pages bytes words e =
 
 -- the run, its pages ascending, passes the tests again
 again : (state pages bytes words : List ℕ) → Passes pages (length bytes) (goodState state) (length words) → tested (savedOf state pages bytes words) ≡ Passed
-unfolding tested savedOf goodState
+unfolding tested savedOf
 again state pages bytes words h =
     let s : Saved = savedOf state pages bytes words in
-    passed (entriesOf (s .pages)) (length (bytesOf (s .pages))) (inRange (stateOf state)) (length words)
+    passed (entriesOf (s .pages)) (length (bytesOf (s .pages))) (goodState state) (length words)
     (record {
       list = valid-list (entriesOf (s .pages)) (length (bytesOf (s .pages))) (ascended-valid pages bytes (list-valid pages (length bytes) (h .list)));
-      state = both (eqb (length state) 10) (inRange (stateOf state)) (h .state) .1;
+      state = h .state;
       whole = h .whole;
       few = h .few;
     })
@@ -162,21 +162,50 @@ written-read state pages bytes words out lent long small-state small-pages small
     let sheeted = saved-sheeted state pages bytes words small-state small-pages small-bytes small-words (was .good) in
     rw (was .left, front out (text s) long (was .whole-long), reads-back s sheeted, again state pages bytes words has)
 
+-- the pages of the run are the lent ones, in their order
+same-pages : (pages bytes : List ℕ) → let ps : List Page = ascended (pagesOf pages bytes) in
+    WholePages ps → HoldsPages pages bytes (entriesOf ps) (bytesOf ps) × HoldsPages (entriesOf ps) (bytesOf ps) pages bytes
+same-pages pages bytes whole =
+    let lent : List Page = pagesOf pages bytes in
+    let ps : List Page = ascended lent in (
+      held-lent pages bytes (entriesOf ps) (bytesOf ps)
+          (rw (pages-back ps whole) (every-map (λ r. List·Memᴰ r lent) (λ r. List·Memᴰ r ps) lent (λ r. mem-ascended r lent) (every-self lent))),
+      held-lent (entriesOf ps) (bytesOf ps) pages bytes (rw (pages-back ps whole) (every-ascended (λ r. List·Memᴰ r lent) lent (every-self lent))),
+    )
+
+pub pages-read-back : PagesReadBack
+unfolding writes filled sizesOf savedOf
+pages-read-back state pages bytes words out lent long sizes small-state small-pages small-bytes small-words wrote read =
+    let s : Saved = savedOf state pages bytes words in
+    let written = write-was (checkBy pages (length bytes) (goodState state) (length words)) (text s) out long wrote in
+    let sheeted = saved-sheeted state pages bytes words small-state small-pages small-bytes small-words (written .good) in
+    let back : List ℕ = take long ((writes state pages bytes words out) .text) in
+    let was = read-was back lent sizes read in
+    let again-read : parsed back ≡ sheet s = rw (written .left, front out (text s) long (written .whole-long)) (reads-back s sheeted) in
+    let both-read : sheet (was .saved) ≡ sheet s = sym (was .from) ∙ again-read in
+    let same : was .saved ≡ s = cc in
+    let pages-are : take (sizes .pages) ((reads back lent) .buffers .pages) ≡ entriesOf (s .pages)
+    = ap (λ (b : Buffers). take (sizes .pages) (b .pages)) (was .left)
+    ∙ front (lent .pages) (entriesOf (was .saved .pages)) (sizes .pages) (ap (λ (z : Sizes). z .pages) (was .long))
+    ∙ ap (λ (r : Saved). entriesOf (r .pages)) same
+    in
+    let bytes-are : take (sizes .bytes) ((reads back lent) .buffers .bytes) ≡ bytesOf (s .pages)
+    = ap (λ (b : Buffers). take (sizes .bytes) (b .bytes)) (was .left)
+    ∙ front (lent .bytes) (bytesOf (was .saved .pages)) (sizes .bytes) (ap (λ (z : Sizes). z .bytes) (was .long))
+    ∙ ap (λ (r : Saved). bytesOf (r .pages)) same
+    in
+    rw (pages-are, bytes-are) (same-pages pages bytes (sheeted .pages))
+
 -- ---- what was read is written
 
--- the run of a sheet passes the tests of a write, as it did those of the read
-good-again : (s : Saved) → length (s .state) ≡ 10 → tested s ≡ Passed → checkBy (entriesOf (s .pages)) (length (bytesOf (s .pages))) (goodState (s .state)) (length (s .words)) ≡ Passed
-unfolding tested goodState
-good-again s ten good = rw (eq-eqb (length (s .state)) 10 ten) good
-
 pub read-written : ReadWritten
-unfolding writes filled sizesOf
+unfolding writes filled sizesOf tested
 read-written t out lent sizes e =
     let was = read-was t lent sizes e in
     let s : Saved = was .saved in
     let back = writes-back t s (was .from) in
-    let state-is = front (lent .state) (s .state) 10 (back .0 .fields) in
+    let state-is = front (lent .state) (s .state) fields (back .0 .fields) in
     let pages-are = front (lent .pages) (entriesOf (s .pages)) (sizes .pages) (ap (λ (z : Sizes). z .pages) (was .long)) in
     let bytes-are = front (lent .bytes) (bytesOf (s .pages)) (sizes .bytes) (ap (λ (z : Sizes). z .bytes) (was .long)) in
     let words-are = front (lent .words) (s .words) (sizes .words) (ap (λ (z : Sizes). z .words) (was .long)) in
-    rw (was .left, state-is, pages-are, bytes-are, words-are, good-again s (back .0 .fields) (was .good), saved-back s (back .0), back .1)
+    rw (was .left, state-is, pages-are, bytes-are, words-are, was .good, saved-back s (back .0), back .1)

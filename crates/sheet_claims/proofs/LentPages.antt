@@ -1,6 +1,6 @@
 -- The pages of the lent buffers, by their places in the list. Assumes nothing.
 use Prim.Native.Nat.{ℕ, zero, suc, _+_, _*_, _<_}
-use mathlib.Core.List.{List, [], _∷_, List·Memᴰ, List·Memᴰ·head, List·Memᴰ·tail, Memᴰ·cast}
+use mathlib.Core.List.{List, [], _∷_, List·Memᴰ, List·Memᴰ·head, List·Memᴰ·tail, List·Memᴰ·not-nil, Memᴰ·cast}
 use mathlib.Core.Path.{_≡_, refl, sym, ap, ap₂, _∙_, subst}
 use native.Mathlib.Omega.{arith}
 use lib.ListN.{length, getD, take, drop}
@@ -10,7 +10,7 @@ use Rattle.memory.specs.Extends.{pageAt, HoldsPages}
 use Rattle.pages.specs.declared.pages.Listing.the-variants.{Valid}
 use Rattle.pages.proofs.Laws.{valid-list}
 use Rattle.sheet.specs.Sheets.{Page, Ascending, pagesOf, ascended, entriesOf}
-use Rattle.sheet_claims.proofs.Ordered.{Every, ascended-ascending}
+use Rattle.sheet_claims.proofs.Ordered.{Every, every-mem, ascended-ascending}
 
 -- the i-th page
 abbrev pub lentPage : List ℕ → List ℕ → ℕ → Page
@@ -45,6 +45,27 @@ lent-held pages₁ bytes₁ pages₂ bytes₂ holds =
     (λ i h.
     let there = holds .each i h in
     Memᴰ·cast (ap₂ (λ (e : ℕ) (b : List ℕ). record { entry = e; bytes = b }) (sym (there .2)) (sym (there .3))) (lent-mem pages₂ bytes₂ (there .0) (there .1)))
+
+-- ---- and back
+
+every-lent : (P : Page → Type 0) (entries bytes : List ℕ) → Every P (pagesOf entries bytes) → (i : ℕ) → i < length entries → P (lentPage entries bytes i)
+every-lent P entries bytes all i h = every-mem P all (lent-mem entries bytes i h)
+
+-- a page of a list has a place there
+mem-lent : (p : Page) (entries bytes : List ℕ) → List·Memᴰ p (pagesOf entries bytes) → (i : ℕ) × (i < length entries) × (lentPage entries bytes i ≡ p)
+unfolding pagesOf
+mem-lent p [] bytes m = absurd (List·Memᴰ·not-nil m)
+mem-lent p (entry ∷ entries) bytes (List·Memᴰ·head e) = (0, omega arith, sym e)
+mem-lent p (entry ∷ entries) bytes (List·Memᴰ·tail m) =
+    let there = mem-lent p entries (drop pageBytes bytes) m in
+    (suc (there .0), let h = there .1 in omega arith, sym (next-page entry entries bytes (there .0)) ∙ there .2)
+
+pub held-lent : (pages₁ bytes₁ pages₂ bytes₂ : List ℕ) → Every (λ p. List·Memᴰ p (pagesOf pages₂ bytes₂)) (pagesOf pages₁ bytes₁) → HoldsPages pages₁ bytes₁ pages₂ bytes₂
+held-lent pages₁ bytes₁ pages₂ bytes₂ all = record {
+  each = λ i h.
+      let there = mem-lent (lentPage pages₁ bytes₁ i) pages₂ bytes₂ (every-lent (λ p. List·Memᴰ p (pagesOf pages₂ bytes₂)) pages₁ bytes₁ all i h) in
+      (there .0, there .1, ap (λ (p : Page). p .entry) (there .2), ap (λ (p : Page). p .bytes) (there .2));
+}
 
 -- ---- a valid list, in ascending order
 

@@ -5,7 +5,7 @@
 --     RoundTripsProof       reads-back, writes-back
 --     FirstBadLineProof     from-one, before, not-here
 --     EqualMeaningProof     equal-text, equal-writes
---     LentBuffersProof      saved-sheeted, longest-text, written-read, read-written, read-untouched, write-untouched
+--     LentBuffersProof      saved-sheeted, longest-text, written-read, pages-read-back, read-written, read-untouched, write-untouched
 --     Promised              promised: all of them
 --     SavedLaws             lent-sheeted, ascended-valid, saved-back: from the lent buffers to a sheet and back
 
@@ -18,6 +18,7 @@ pub mod SavedLaws
 pub mod LentBuffersProof
 mod Bytes
 mod LineKinds
+mod Plain
 mod WordsRead
 mod StagesRead
 mod SheetLines

@@ -1,18 +1,19 @@
 -- A line that was printed, read back; and that it is of no other kind. From the laws on single lines. Assumes nothing.
 use Prim.Native.Nat.{ℕ, _^_, _<_}
-use mathlib.Core.Bool.{Bool, true, false}
+use mathlib.Core.Bool.{Bool, true, false, cond, _&&_}
 use mathlib.Core.List.{List, [], _∷_}
 use mathlib.Core.Path.{_≡_, refl, _∙_}
 use native.Mathlib.Omega.{arith}
-use lib.ListN.{length, getD}
+use lib.ListN.{length, getD, drop}
+use lib.Dec.{eqb}
 use borrow.Author.Tests.{eq-eqb, ne-eqb}
 use Rattle.sheet.specs.Digits.{Below}
-use Rattle.sheet.specs.Lines.{fieldCount, line, isLine, begins, form, values}
+use Rattle.sheet.specs.Lines.{fieldCount, line, lines, isLine, values}
 use Rattle.sheet.specs.Sheets.{version}
-use Rattle.sheet.specs.Reading.{value, isHead, isWord}
+use Rattle.sheet.specs.Reading.{Parsed, noSheet, value, next, isWord, parsedBody, parsedBy, parsedLines}
 use Rattle.sheet.specs.declared.line.Line.{Line}
-use Rattle.sheet.specs.declared.line.Line.the-variants.{Sheet, State, Page, Word, Do}
-use Rattle.sheet.proofs.LineLaws.{is-line-line, values-line, values-count, one-kind}
+use Rattle.sheet.specs.declared.line.Line.the-variants.{Sheet, Word}
+use Rattle.sheet.proofs.LineLaws.{next-line, nothing-begins, is-line-line, values-line, values-count, one-kind}
 use Rattle.sheet_claims.proofs.Bytes.{below-none, below-cons}
 
 -- ---- kinds
@@ -27,12 +28,8 @@ no-other kind other l is differ = go (isLine other l) refl
 
 -- an empty line is of no kind
 pub no-line : (kind : Line) → isLine kind [] ≡ false
-unfolding isLine begins form
-no-line Sheet = refl
-no-line State = refl
-no-line Page = refl
-no-line Word = refl
-no-line Do = refl
+unfolding lines
+no-line kind = next-line kind [] ∙ nothing-begins kind
 
 -- ---- lines of one number and of two
 
@@ -55,6 +52,19 @@ word-fields l = two (values Word l) (values-count Word l)
 
 pub one-below : (v : ℕ) → v < 2 ^ 64 → Below (2 ^ 64) (v ∷ [])
 one-below v small = below-cons (2 ^ 64) v [] small (below-none (2 ^ 64) (omega arith))
+
+-- the line of the newest version
+unfoldable pub isHead : List ℕ → Bool
+isHead l = isLine Sheet l && eqb (value Sheet 0 l) version
+
+both-tests : {A : Type 0} (a b : Bool) (x y : A) → cond a (cond b x y) y ≡ cond (a && b) x y
+both-tests true b x y = refl
+both-tests false b x y = refl
+
+-- reading, by it
+pub head-parsed : (ls : List (List ℕ)) → parsedLines ls ≡ cond (isHead (next ls)) (parsedBody (drop 1 ls)) (noSheet 1)
+unfolding parsedLines parsedBy isHead
+head-parsed ls = both-tests (isLine Sheet (next ls)) (eqb (value Sheet 0 (next ls)) version) (parsedBody (drop 1 ls)) (noSheet 1)
 
 pub head-read : isHead (line Sheet (version ∷ [])) ≡ true
 unfolding isHead

@@ -9,8 +9,9 @@ use lib.Dec.{leb}
 use Rattle.pages.specs.Pages.{pageOf}
 use Rattle.sheet.specs.Lines.{isLine}
 use Rattle.sheet.specs.Sheets.{slots}
-use Rattle.pages.specs.Pages.{frameOf}
-use Rattle.sheet.specs.Reading.{value, next, isWord, pageCount, numbers, pastSlot, pastSlots, pastPages, doCount, stages}
+use Rattle.pages.specs.Pages.{pageNumber}
+use Rattle.sheet.specs.Reading.{value, next, isWord, pageCount, numbers, plainCount, pastPlain, pastSlot, pastSlots, pastPages, stages}
+use Rattle.sheet.specs.declared.line.Line.{Line}
 use Rattle.sheet.specs.declared.line.Line.the-variants.{Page as PageLine, Do}
 
 -- In what follows `past` is what a stage leaves of some lines. Of xs and `l` it leaves ys and `l`, whatever follows them.
@@ -98,21 +99,21 @@ module _ (count : ℕ → List (List ℕ) → ℕ) (test : ℕ → List ℕ → 
   stops-count k [] l rest h = here k l rest (test k l) refl (rw (count-cons k l rest) at h)
   stops-count k (x ∷ xs) l rest h = later k x xs l rest (test k x) refl (stops-count (then k x) xs l rest) (rw (count-cons k x (xs ++ l ∷ rest)) at h)
 
-looks-do : Looks (λ ls. drop (doCount ls) ls)
-unfolding doCount
-looks-do = record {
+looks-plain : (kind : Line) → Looks (pastPlain kind)
+unfolding plainCount
+looks-plain kind = record {
   shorter = λ ls. rw length-drop (omega arith);
-  stops = λ xs l rest h. let split = stops-count (λ k. doCount) (λ k. isLine Do) (λ k l. k) (λ k l ls. refl) 0 xs l rest h in (split .1, λ other. split .2 other .1);
+  stops = λ xs l rest h. let split = stops-count (λ k. plainCount kind) (λ k. isLine kind) (λ k l. k) (λ k l ls. refl) 0 xs l rest h in (split .1, λ other. split .2 other .1);
 }
 
 -- ---- all stages
 
 -- what is left behind the words and the instructions
 abbrev leftBehind : List ℕ → List (List ℕ) → List (List ℕ)
-leftBehind entries ls = drop (doCount (pastPages entries ls)) (pastPages entries ls)
+leftBehind entries ls = pastPlain Do (pastPages entries ls)
 
 looks-behind : (entries : List ℕ) → Looks (leftBehind entries)
-looks-behind entries = one-after-other (pastPages entries) (λ ls. drop (doCount ls) ls) (looks-words entries) looks-do
+looks-behind entries = one-after-other (pastPages entries) (pastPlain Do) (looks-words entries) (looks-plain Do)
 
 -- a line that is left is left whatever follows it
 pub stages-stop : (xs : List (List ℕ)) (l : List ℕ) (rest other : List (List ℕ)) → length rest < length (stages (xs ++ l ∷ rest) .left) → length other < length (stages (xs ++ l ∷ other) .left)
@@ -121,7 +122,7 @@ stages-stop xs l rest other h =
     let c : ℕ = pageCount 0 (xs ++ l ∷ rest) in
     let fewer = looks-behind (numbers PageLine (take c (xs ++ l ∷ rest))) .shorter (drop c (xs ++ l ∷ rest)) in
     let first
-    = stops-count pageCount (λ k l. isLine PageLine l && leb k (frameOf (value PageLine 0 l))) (λ k l. suc (frameOf (value PageLine 0 l))) (λ k l ls. refl) 0 xs l rest (omega arith) in
+    = stops-count pageCount (λ k l. isLine PageLine l && leb k (pageNumber (value PageLine 0 l))) (λ k l. suc (pageNumber (value PageLine 0 l))) (λ k l ls. refl) 0 xs l rest (omega arith) in
     let second
     = looks-behind (numbers PageLine (first .0)) .stops (first .1) l rest
     (subst₂ (λ (taken left : List (List ℕ)). length rest < length (leftBehind (numbers PageLine taken) left)) (first .2 rest .0) (first .2 rest .1) h) in

@@ -12,7 +12,7 @@ use borrow.Author.Tests.{le-leb, leb-true, leb-false}
 use Rattle.pages.specs.Pages.{anyEntry, repeated}
 use Rattle.pages.proofs.Laws.{none-passes, each-fails, Apart, once-apart, apart-once}
 use Rattle.sheet.specs.Sheets.{Page, Ascending, insert, ascended, entriesOf}
-use Rattle.pages.specs.Pages.{frameOf}
+use Rattle.pages.specs.Pages.{pageNumber}
 
 -- ---- every page of a list
 
@@ -28,21 +28,25 @@ pub every-mem : (P : Page → Type 0) {p : Page} {ps : List Page} → Every P ps
 every-mem P all (List·Memᴰ·head e) = subst P (sym e) (all .0)
 every-mem P all (List·Memᴰ·tail m) = every-mem P (all .1) m
 
+pub every-self : (ps : List Page) → Every (λ p. List·Memᴰ p ps) ps
+every-self [] = tt
+every-self (p ∷ ps) = (List·Memᴰ·head refl, every-map (λ q. List·Memᴰ q ps) (λ q. List·Memᴰ q (p ∷ ps)) ps (λ q m. List·Memᴰ·tail m) (every-self ps))
+
 -- ---- a page put into its place
 
 data Inserted (p : Page) : List Page → List Page → Type 0 where
   last : Inserted p [] (p ∷ [])
-  here : {q : Page} {qs : List Page} → frameOf (p .entry) ≤ frameOf (q .entry) → Inserted p (q ∷ qs) (p ∷ q ∷ qs)
-  later : {q : Page} {qs rs : List Page} → frameOf (q .entry) < frameOf (p .entry) → Inserted p qs rs → Inserted p (q ∷ qs) (q ∷ rs)
+  here : {q : Page} {qs : List Page} → pageNumber (p .entry) ≤ pageNumber (q .entry) → Inserted p (q ∷ qs) (p ∷ q ∷ qs)
+  later : {q : Page} {qs rs : List Page} → pageNumber (q .entry) < pageNumber (p .entry) → Inserted p qs rs → Inserted p (q ∷ qs) (q ∷ rs)
 
 inserted : (p : Page) (ps : List Page) → Inserted p ps (insert p ps)
 unfolding insert
 inserted p [] = last
-inserted p (q ∷ qs) = by (leb (frameOf (p .entry)) (frameOf (q .entry))) refl (inserted p qs)
+inserted p (q ∷ qs) = by (leb (pageNumber (p .entry)) (pageNumber (q .entry))) refl (inserted p qs)
   where
-    by : (t : Bool) → leb (frameOf (p .entry)) (frameOf (q .entry)) ≡ t → Inserted p qs (insert p qs) → Inserted p (q ∷ qs) (cond t (p ∷ q ∷ qs) (q ∷ insert p qs))
-    by true e i = here (leb-true (frameOf (p .entry)) (frameOf (q .entry)) e)
-    by false e i = later (leb-false (frameOf (p .entry)) (frameOf (q .entry)) e) i
+    by : (t : Bool) → leb (pageNumber (p .entry)) (pageNumber (q .entry)) ≡ t → Inserted p qs (insert p qs) → Inserted p (q ∷ qs) (cond t (p ∷ q ∷ qs) (q ∷ insert p qs))
+    by true e i = here (leb-true (pageNumber (p .entry)) (pageNumber (q .entry)) e)
+    by false e i = later (leb-false (pageNumber (p .entry)) (pageNumber (q .entry)) e) i
 
 -- what a list holds, a list that holds its tail's pages holds behind the same first page
 still-there : {q r : Page} {qs rs : List Page} → (List·Memᴰ r qs → List·Memᴰ r rs) → List·Memᴰ r (q ∷ qs) → List·Memᴰ r (q ∷ rs)
@@ -51,10 +55,10 @@ still-there keep (List·Memᴰ·tail m) = List·Memᴰ·tail (keep m)
 
 -- the entry has another page
 abbrev Other : ℕ → ℕ → Type 0
-Other entry n = frameOf entry ≡ frameOf n → ⊥
+Other entry n = pageNumber entry ≡ pageNumber n → ⊥
 
 -- of two pages with different addresses, the one that is not above is below
-below-other : (a b : ℕ) → Other a b → frameOf a ≤ frameOf b → frameOf a < frameOf b
+below-other : (a b : ℕ) → Other a b → pageNumber a ≤ pageNumber b → pageNumber a < pageNumber b
 below-other a b other low = omega arith
 
 module _ (p : Page) where
@@ -79,7 +83,7 @@ module _ (p : Page) where
   length-inserted (later high i) = ap suc (length-inserted i)
 
   -- no page of the list has its address
-  ascending-inserted : {qs rs : List Page} → Inserted p qs rs → (least : ℕ) → least ≤ frameOf (p .entry) → Every (λ q. Other (p .entry) (q .entry)) qs
+  ascending-inserted : {qs rs : List Page} → Inserted p qs rs → (least : ℕ) → least ≤ pageNumber (p .entry) → Every (λ q. Other (p .entry) (q .entry)) qs
       → Ascending least qs → Ascending least rs
   unfolding Ascending
   ascending-inserted last least low apart up = (low, up)
@@ -127,7 +131,7 @@ pub every-any : (test : ℕ → Bool) (ps : List Page) → Every (λ p. test (p 
 every-any test ps all = each-fails test (entriesOf ps) (at-every (λ n. test n ≡ false) ps all)
 
 apart-ascending : (ps : List Page) → Apart (entriesOf ps) → Ascending 0 (ascended ps)
-unfolding ascended entriesOf Ascending frameOf
+unfolding ascended entriesOf Ascending pageNumber
 apart-ascending [] apart = tt
 apart-ascending (p ∷ ps) apart =
     ascending-inserted p (inserted p (ascended ps)) 0 (omega arith)
@@ -140,24 +144,24 @@ ascended-ascending ps once = apart-ascending ps (once-apart (entriesOf ps) once)
 
 -- ---- what an ascending list has
 
-pub ascending-every : (P : Page → Type 0) (least : ℕ) (ps : List Page) → ((p : Page) → least ≤ frameOf (p .entry) → P p) → Ascending least ps → Every P ps
+pub ascending-every : (P : Page → Type 0) (least : ℕ) (ps : List Page) → ((p : Page) → least ≤ pageNumber (p .entry) → P p) → Ascending least ps → Every P ps
 unfolding Ascending
 ascending-every P least [] each up = tt
 ascending-every P least (p ∷ ps) each up =
     let low = up .0 in
-    (each p low, ascending-every P (suc (frameOf (p .entry))) ps (λ q high. each q (omega arith)) (up .1))
+    (each p low, ascending-every P (suc (pageNumber (p .entry))) ps (λ q high. each q (omega arith)) (up .1))
 
-ascending-above : (p : Page) (ps : List Page) → Ascending (suc (frameOf (p .entry))) ps → (j : ℕ) → j < length (entriesOf ps)
-    → frameOf (p .entry) < frameOf (getD (entriesOf ps) j 0)
-ascending-above p ps up = at-every (λ n. frameOf (p .entry) < frameOf n) ps (ascending-every (λ q. frameOf (p .entry) < frameOf (q .entry)) (suc (frameOf (p .entry))) ps (λ q high. high) up)
+ascending-above : (p : Page) (ps : List Page) → Ascending (suc (pageNumber (p .entry))) ps → (j : ℕ) → j < length (entriesOf ps)
+    → pageNumber (p .entry) < pageNumber (getD (entriesOf ps) j 0)
+ascending-above p ps up = at-every (λ n. pageNumber (p .entry) < pageNumber n) ps (ascending-every (λ q. pageNumber (p .entry) < pageNumber (q .entry)) (suc (pageNumber (p .entry))) ps (λ q high. high) up)
 
 ascending-places : (least : ℕ) (ps : List Page) → Ascending least ps → Apart (entriesOf ps)
-unfolding Ascending entriesOf frameOf
+unfolding Ascending entriesOf pageNumber
 ascending-places least [] up i j h k e = absurd (omega arith)
 ascending-places least (p ∷ ps) up zero zero h k e = refl
 ascending-places least (p ∷ ps) up zero (suc j) h k e = let above = ascending-above p ps (up .1) j (omega arith) in absurd (omega arith)
 ascending-places least (p ∷ ps) up (suc i) zero h k e = let above = ascending-above p ps (up .1) i (omega arith) in absurd (omega arith)
-ascending-places least (p ∷ ps) up (suc i) (suc j) h k e = ap suc (ascending-places (suc (frameOf (p .entry))) ps (up .1) i j (omega arith) (omega arith) e)
+ascending-places least (p ∷ ps) up (suc i) (suc j) h k e = ap suc (ascending-places (suc (pageNumber (p .entry))) ps (up .1) i j (omega arith) (omega arith) e)
 
 pub ascending-apart : (least : ℕ) (ps : List Page) → Ascending least ps → repeated (entriesOf ps) ≡ false
 ascending-apart least ps up = apart-once (entriesOf ps) (ascending-places least ps up)
@@ -168,5 +172,5 @@ unfolding Ascending ascended insert
 ascending-same least [] up = refl
 ascending-same least (p ∷ []) up = refl
 ascending-same least (p ∷ q ∷ ps) up =
-    let low : frameOf (p .entry) < frameOf (q .entry) = up .1 .0 in
-    ap (insert p) (ascending-same (suc (frameOf (p .entry))) (q ∷ ps) (up .1)) ∙ rw (le-leb (frameOf (p .entry)) (frameOf (q .entry)) (omega arith))
+    let low : pageNumber (p .entry) < pageNumber (q .entry) = up .1 .0 in
+    ap (insert p) (ascending-same (suc (pageNumber (p .entry))) (q ∷ ps) (up .1)) ∙ rw (le-leb (pageNumber (p .entry)) (pageNumber (q .entry)) (omega arith))

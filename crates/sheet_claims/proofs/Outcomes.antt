@@ -4,15 +4,16 @@ use mathlib.Core.Bool.{Bool, true, false, true≢false, and-eq-true-iff}
 use mathlib.Core.List.{List, [], _∷_, _++_, append-nil}
 use mathlib.Core.Path.{_≡_, refl, sym, ap, ap₂, _∙_}
 use native.Mathlib.Omega.{arith}
-use lib.ListN.{length, take, drop, length-append}
+use lib.ListN.{length, take, drop, length-append, length-drop}
+use lib.Seq.{drop-drop}
 use lib.Dec.{eqb, eqb·suc-zero}
 use borrow.Author.Tests.{eqb-true}
 use Rattle.sheet.specs.Lines.{line, isLine, values}
 use Rattle.sheet.specs.Sheets.{Saved, Sheeted, version, sheetLines}
-use Rattle.sheet.specs.Reading.{sheet, noSheet, value, next, isHead, stages, parsedLines}
+use Rattle.sheet.specs.Reading.{sheet, noSheet, value, next, stages, parsedBody, parsedLines}
 use Rattle.sheet.specs.declared.line.Line.the-variants.{Sheet, State}
 use Rattle.sheet.proofs.LineLaws.{line-values, values-count, values-below}
-use Rattle.sheet_claims.proofs.LineKinds.{no-line, one-field}
+use Rattle.sheet_claims.proofs.LineKinds.{no-line, one-field, isHead, head-parsed}
 use Rattle.sheet_claims.proofs.StagesTaken.{stages-taken, stages-sheeted}
 
 -- no `sheet` line; no `state` line; all lines are those of a run; or a line is left behind those of a run
@@ -57,21 +58,23 @@ module _ (ls : List (List ℕ)) (e : isHead (next ls) ≡ true) (f : isLine Stat
   all-lines = ap (λ (rest : List (List ℕ)). line Sheet (version ∷ []) ∷ line State (values State (next (drop 1 ls))) ∷ rest) (stages-taken (drop 2 ls)) ∙ first-two ls e f
 
   both-there : Outcome ls
-  unfolding parsedLines
+  unfolding parsedBody
   both-there = by (stages (drop 2 ls) .left) refl
     where
       by : (left : List (List ℕ)) → stages (drop 2 ls) .left ≡ left → Outcome ls
-      by [] none = whole s sheeted (sym (append-nil (sheetLines s)) ∙ (rw none at all-lines)) (rw (e, f, none))
+      by [] none = whole s sheeted (sym (append-nil (sheetLines s)) ∙ (rw none at all-lines)) (head-parsed ls ∙ rw (e, f, drop-drop 1 1 ls, none))
       by (l ∷ rest) some =
           let lines-are : sheetLines s ++ l ∷ rest ≡ ls = rw some at all-lines in
-          let taken : length ls - suc (length rest) ≡ length (sheetLines s) = let n = simp length-append at (ap length lines-are) in omega arith in
-          stopped s l rest sheeted lines-are some (rw (e, f, some, eqb·suc-zero (length rest), taken))
+          let taken : suc (length (drop 1 ls)) - suc (length rest) ≡ length (sheetLines s)
+          = let n = simp length-append at (ap length lines-are) in let behind = length-drop 1 ls in omega arith
+          in
+          stopped s l rest sheeted lines-are some (head-parsed ls ∙ rw (e, f, drop-drop 1 1 ls, some, eqb·suc-zero (length rest), taken))
 
 pub outcome : (ls : List (List ℕ)) → Outcome ls
-unfolding parsedLines
+unfolding parsedBody
 outcome ls = by (isHead (next ls)) refl (isLine State (next (drop 1 ls))) refl
   where
     by : (h : Bool) → isHead (next ls) ≡ h → (t : Bool) → isLine State (next (drop 1 ls)) ≡ t → Outcome ls
-    by false e t f = no-head e (rw e)
-    by true e false f = no-state (first-one ls e) f (rw (e, f))
+    by false e t f = no-head e (head-parsed ls ∙ rw e)
+    by true e false f = no-state (first-one ls e) f (head-parsed ls ∙ rw (e, f))
     by true e true f = both-there ls e f

@@ -4,7 +4,7 @@ use Rattle.sheet_claims.proofs.WorkedProof.{worked}
 use Rattle.sheet_claims.proofs.RoundTripsProof.{reads-back, writes-back}
 use Rattle.sheet_claims.proofs.FirstBadLineProof.{from-one, before, not-here}
 use Rattle.sheet_claims.proofs.EqualMeaningProof.{equal-text, equal-writes}
-use Rattle.sheet_claims.proofs.LentBuffersProof.{saved-sheeted, longest-text, written-read, read-written, read-untouched, write-untouched}
+use Rattle.sheet_claims.proofs.LentBuffersProof.{saved-sheeted, longest-text, written-read, pages-read-back, read-written, read-untouched, write-untouched}
 
 pub promised : Promises
 promised = record {
@@ -19,6 +19,7 @@ promised = record {
   equal-writes = equal-writes;
   longest-text = longest-text;
   written-read = written-read;
+  pages-read-back = pages-read-back;
   read-written = read-written;
   read-untouched = read-untouched;
   write-untouched = write-untouched;

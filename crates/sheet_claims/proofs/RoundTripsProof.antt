@@ -4,18 +4,18 @@ use mathlib.Core.Path.{_≡_, ap, _∙_, subst}
 use native.Mathlib.Omega.{arith}
 use Rattle.sheet.specs.Lines.{lines, joined}
 use Rattle.sheet.specs.Sheets.{Saved, Sheeted, sheetLines, text}
-use Rattle.sheet.specs.Reading.{parsedLines, parsed}
+use Rattle.sheet.specs.Reading.{parsedBody, parsed}
 use Rattle.sheet.specs.declared.line.Line.the-variants.{State}
 use Rattle.sheet.proofs.LineLaws.{is-line-line, values-line, joined-lines}
 use Rattle.sheet_claims.specs.RoundTrips.{ReadsBack, WritesBack}
-use Rattle.sheet_claims.proofs.LineKinds.{head-read}
+use Rattle.sheet_claims.proofs.LineKinds.{head-parsed, head-read}
 use Rattle.sheet_claims.proofs.Outcomes.{Outcome, no-head, no-state, whole, stopped, outcome}
 use Rattle.sheet_claims.proofs.SheetLines.{lines-of-text}
 use Rattle.sheet_claims.proofs.StagesRead.{stages-read}
 
 pub reads-back : ReadsBack
-unfolding parsed parsedLines sheetLines
-reads-back s h = rw (lines-of-text s h, head-read, is-line-line State (s .state) (h .fields) (h .state), values-line State (s .state) (h .fields) (h .state), stages-read s h)
+unfolding parsed parsedBody sheetLines
+reads-back s h = head-parsed (lines (text s)) ∙ rw (lines-of-text s h, head-read, is-line-line State (s .state) (h .fields) (h .state), values-line State (s .state) (h .fields) (h .state), stages-read s h)
 
 pub writes-back : WritesBack
 unfolding parsed text

@@ -11,6 +11,8 @@ use Rattle.pages.specs.Pages.{pageBytes, badKind, badAddress, anyEntry, listing
 use Rattle.pages.specs.declared.pages.Listing.the-variants.{Valid}
 use Rattle.pages.proofs.Laws.{ValidList, valid-list, list-valid}
 use Rattle.sheet.specs.Digits.{Below}
+use Rattle.sheet.specs.Lines.{fieldCount}
+use Rattle.sheet.specs.declared.line.Line.the-variants.{State, Do}
 use Rattle.sheet.specs.Sheets.{Page, Saved, WholePage, WholePages, Sheeted, pagesOf, ascended, savedOf, entriesOf, bytesOf}
 use Rattle.sheet_claims.proofs.Bytes.{below-take, below-drop}
 use Rattle.sheet_claims.proofs.LentPages.{lentPage, lent-entries, lent-every, lent-ascending}
@@ -73,7 +75,7 @@ module _ (entries bytes : List ℕ) (is-valid : listing entries (length bytes) �
 
   -- ---- it has a sheet
 
-  pub lent-sheeted : (state words : List ℕ) → length state ≡ 10 → Below (2 ^ 64) state → Below (2 ^ 64) entries → Below 256 bytes → length words % 4 ≡ 0 → Below (2 ^ 64) words
+  pub lent-sheeted : (state words : List ℕ) → length state ≡ fieldCount State → Below (2 ^ 64) state → Below (2 ^ 64) entries → Below 256 bytes → length words % fieldCount Do ≡ 0 → Below (2 ^ 64) words
       → Sheeted (savedOf state entries bytes words)
   unfolding savedOf Below
   lent-sheeted state words ten state-small entries-small bytes-small four words-small = record {
@@ -94,7 +96,7 @@ module _ (entries bytes : List ℕ) (is-valid : listing entries (length bytes) �
 
 -- ---- from a sheet to the buffers and back
 
-pages-back : (ps : List Page) → WholePages ps → pagesOf (entriesOf ps) (bytesOf ps) ≡ ps
+pub pages-back : (ps : List Page) → WholePages ps → pagesOf (entriesOf ps) (bytesOf ps) ≡ ps
 unfolding WholePages pagesOf entriesOf bytesOf
 pages-back [] whole = refl
 pages-back (p ∷ ps) whole =

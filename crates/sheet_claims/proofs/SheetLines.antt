@@ -4,18 +4,19 @@ use mathlib.Core.Bool.{Bool, true, false, cond}
 use mathlib.Core.List.{List, [], _∷_, _++_}
 use mathlib.Core.Path.{_≡_, refl}
 use native.Mathlib.Omega.{arith}
-use lib.ListN.{length, take, drop, length-drop}
-use lib.Seq.{length-take-le}
+use lib.ListN.{length, take, drop}
 use lib.Dec.{eqb}
+use Rattle.numbers.specs.Numbers.{numberAt}
 use Rattle.pages.specs.Pages.{pageOf}
 use Rattle.pages.proofs.Laws.{page-end}
 use Rattle.sheet.specs.Digits.{Below}
 use Rattle.sheet.specs.Lines.{fieldCount, line, lines}
-use Rattle.sheet.specs.Sheets.{Page, Saved, Sheeted, WholePages, little, wordLine, wordLines, slots, pagesWords, pageLines, doLines, version, sheetLines, text}
+use Rattle.sheet.specs.Sheets.{Page, Saved, Sheeted, WholePages, wordLine, wordLines, slots, pagesWords, pageLines, plainLines, allPlain, version, sheetLines, text}
 use Rattle.sheet.specs.declared.line.Line.{Line}
 use Rattle.sheet.specs.declared.line.Line.the-variants.{Sheet, State, Page as PageLine, Word, Do}
 use Rattle.sheet.proofs.LineLaws.{is-line-line, LinesOnly, lines-joined}
-use Rattle.sheet_claims.proofs.Bytes.{below-take, below-drop, little-below}
+use Rattle.sheet_claims.proofs.Bytes.{below-drop, little-below}
+use Rattle.sheet_claims.proofs.Plain.{filled, own-long, own-small, rest-long, rest-small}
 use Rattle.sheet_claims.proofs.LineKinds.{one-below, word-line}
 
 only-printed : (kind : Line) (vs : List ℕ) (ls : List (List ℕ)) → length vs ≡ fieldCount kind → Below (2 ^ 64) vs → LinesOnly ls → LinesOnly (line kind vs ∷ ls)
@@ -39,7 +40,7 @@ only-slots : (address n : ℕ) (bytes : List ℕ) → address + 8 * n ≤ 2 ^ 64
 unfolding LinesOnly wordLines
 only-slots address zero bytes fits small = tt
 only-slots address (suc n) bytes fits small =
-    only-append (wordLine address (little 8 bytes)) (wordLines (address + 8) n (drop 8 bytes)) (only-slot address (little 8 bytes) (omega arith) (little-below 8 bytes small))
+    only-append (wordLine address (numberAt bytes 0 8)) (wordLines (address + 8) n (drop 8 bytes)) (only-slot address (numberAt bytes 0 8) (omega arith) (little-below 8 bytes small))
     (only-slots (address + 8) n (drop 8 bytes) (omega arith) (below-drop 256 8 bytes small))
 
 only-words : (ps : List Page) → WholePages ps → LinesOnly (pagesWords ps)
@@ -55,12 +56,12 @@ unfolding pageLines WholePages
 only-pages [] ls whole rest = rest
 only-pages (p ∷ ps) ls whole rest = only-printed PageLine (p .entry ∷ []) (pageLines ps ++ ls) refl (one-below (p .entry) (whole .0 .entry)) (only-pages ps ls (whole .1) rest)
 
-only-do : (n : ℕ) (words : List ℕ) → 4 * n ≤ length words → Below (2 ^ 64) words → LinesOnly (doLines n words)
-unfolding LinesOnly doLines
-only-do zero words long small = tt
-only-do (suc n) words long small =
-    only-printed Do (take 4 words) (doLines n (drop 4 words)) (length-take-le 4 words (omega arith)) (below-take (2 ^ 64) 4 words small)
-    (only-do n (drop 4 words) (simp length-drop (omega arith)) (below-drop (2 ^ 64) 4 words small))
+only-plain : (kind : Line) (n : ℕ) (ns : List ℕ) → length ns ≡ fieldCount kind * n → Below (2 ^ 64) ns → LinesOnly (plainLines kind n ns)
+unfolding LinesOnly plainLines
+only-plain kind zero ns long small = tt
+only-plain kind (suc n) ns long small =
+    only-printed kind (take (fieldCount kind) ns) (plainLines kind n (drop (fieldCount kind) ns)) (own-long kind n ns long small) (own-small kind n ns long small)
+    (only-plain kind n (drop (fieldCount kind) ns) (rest-long kind n ns long small) (rest-small kind n ns long small))
 
 pub lines-of-text : (s : Saved) → Sheeted s → lines (text s) ≡ sheetLines s
 unfolding sheetLines text
@@ -69,4 +70,5 @@ lines-of-text s h =
     (only-printed Sheet (version ∷ []) _ refl (one-below version (omega arith))
     (only-printed State (s .state) _ (h .fields) (h .state)
     (only-pages (s .pages) _ (h .pages)
-    (only-append (pagesWords (s .pages)) (doLines (length (s .words) / 4) (s .words)) (only-words (s .pages) (h .pages)) (only-do (length (s .words) / 4) (s .words) (omega arith) (h .words))))))
+    (only-append (pagesWords (s .pages)) (allPlain Do (s .words)) (only-words (s .pages) (h .pages))
+    (only-plain Do (length (s .words) / fieldCount Do) (s .words) (filled Do (s .words) (h .whole)) (h .words))))))

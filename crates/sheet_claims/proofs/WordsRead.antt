@@ -7,12 +7,13 @@ use native.Mathlib.Omega.{arith}
 use lib.ListN.{length, drop, take-append-drop, length-drop}
 use lib.Dec.{eqb}
 use borrow.Author.Tests.{eqb-true, eqb-false}
+use Rattle.numbers.specs.Numbers.{numberAt}
 use Rattle.pages.specs.Pages.{pageOf}
 use Rattle.pages.proofs.Laws.{page-and-offset, page-end}
 use Rattle.sheet.specs.Digits.{Below}
 use Rattle.sheet.specs.Lines.{line}
-use Rattle.sheet.specs.Sheets.{Page, Ascending, WholePages, little, wordLine, wordLines, slots, pagesWords, entriesOf}
-use Rattle.pages.specs.Pages.{frameOf}
+use Rattle.sheet.specs.Sheets.{Page, Ascending, WholePages, wordLine, wordLines, slots, pagesWords, entriesOf}
+use Rattle.pages.specs.Pages.{pageNumber}
 use Rattle.sheet.specs.Reading.{next, isWord, slotValue, pastSlot, slotBytes, pastSlots, pagesIn, pastPages}
 use Rattle.sheet.specs.declared.line.Line.the-variants.{Word}
 use Rattle.sheet_claims.proofs.Bytes.{below-drop, little-below, bytes-of-little}
@@ -34,12 +35,12 @@ unfolding wordLines
 next-of-slots P address zero bytes rest small each last = last
 next-of-slots P address (suc n) bytes rest small each last =
     rw append-assoc
-    (next-of-slot P address (little 8 bytes) (wordLines (address + 8) n (drop 8 bytes) ++ rest) (each address (little 8 bytes) (omega arith) (omega arith) (little-below 8 bytes small))
+    (next-of-slot P address (numberAt bytes 0 8) (wordLines (address + 8) n (drop 8 bytes) ++ rest) (each address (numberAt bytes 0 8) (omega arith) (omega arith) (little-below 8 bytes small))
     (next-of-slots P (address + 8) n (drop 8 bytes) rest (below-drop 256 8 bytes small) (λ a v low high. each a v (omega arith) (omega arith)) last))
 
 pub next-of-pages : (P : List ℕ → Type 0) (least : ℕ) (ps : List Page) (rest : List (List ℕ)) → Ascending least ps → WholePages ps
     → ((a v : ℕ) → 4096 * least ≤ a → a < 2 ^ 64 → v < 2 ^ 64 → P (line Word (a ∷ v ∷ []))) → P (next rest) → P (next (pagesWords ps ++ rest))
-unfolding pagesWords Ascending WholePages frameOf
+unfolding pagesWords Ascending WholePages pageNumber
 next-of-pages P least [] rest up whole each last = last
 next-of-pages P least (p ∷ ps) rest up whole each last =
     let low : least ≤ p .entry / 4096 = up .0 in
@@ -47,7 +48,7 @@ next-of-pages P least (p ∷ ps) rest up whole each last =
     let end = page-end (p .entry) (whole .0 .entry) in
     rw append-assoc
     (next-of-slots P (pageOf (p .entry)) slots (p .bytes) (pagesWords ps ++ rest) (whole .0 .bytes) (λ a v near far. each a v (omega arith) (omega arith))
-    (next-of-pages P (suc (frameOf (p .entry))) ps rest (up .1) (whole .1) (λ a v near. each a v (omega arith)) last))
+    (next-of-pages P (suc (pageNumber (p .entry))) ps rest (up .1) (whole .1) (λ a v near. each a v (omega arith)) last))
 
 -- ---- one value
 
@@ -75,11 +76,11 @@ slots-read address zero [] rest fits long small behind = (refl, refl)
 slots-read address zero (b ∷ bytes) rest fits long small behind = absurd (omega arith)
 slots-read address (suc n) bytes rest fits long small behind =
     let more : List (List ℕ) = wordLines (address + 8) n (drop 8 bytes) ++ rest in
-    let v-small : little 8 bytes < 2 ^ 64 = little-below 8 bytes small in
+    let v-small : numberAt bytes 0 8 < 2 ^ 64 = little-below 8 bytes small in
     let next-other : isWord address (next more) ≡ false
     = next-of-slots (λ l. isWord address l ≡ false) (address + 8) n (drop 8 bytes) rest (below-drop 256 8 bytes small)
     (λ a v near far v-fits. other-word a v (omega arith) v-fits address (omega arith)) (behind address (omega arith)) in
-    let here = slot-read address (little 8 bytes) more (omega arith) v-small next-other in
+    let here = slot-read address (numberAt bytes 0 8) more (omega arith) v-small next-other in
     let after = slots-read (address + 8) n (drop 8 bytes) rest (omega arith) (simp length-drop (omega arith)) (below-drop 256 8 bytes small) (λ a near. behind a (omega arith)) in
     rw (append-assoc, here .0, here .1, after .0, after .1, bytes-of-little 8 bytes (omega arith) small, take-append-drop 8 bytes) (refl, refl)
 
@@ -91,8 +92,8 @@ pages-read least (p ∷ ps) rest up whole other =
     let more : List (List ℕ) = pagesWords ps ++ rest in
     let first = page-and-offset (p .entry) in
     let behind : Behind (pageOf (p .entry) + 8 * slots) more
-    = λ a near. next-of-pages (λ l. isWord a l ≡ false) (suc (frameOf (p .entry))) ps rest (up .1) (whole .1)
-    (λ b v far b-fits v-fits. other-word b v b-fits v-fits a (unfold frameOf in omega arith)) (other a) in
+    = λ a near. next-of-pages (λ l. isWord a l ≡ false) (suc (pageNumber (p .entry))) ps rest (up .1) (whole .1)
+    (λ b v far b-fits v-fits. other-word b v b-fits v-fits a (unfold pageNumber in omega arith)) (other a) in
     let here = slots-read (pageOf (p .entry)) slots (p .bytes) more (page-end (p .entry) (whole .0 .entry)) (whole .0 .long) (whole .0 .bytes) behind in
-    let after = pages-read (suc (frameOf (p .entry))) ps rest (up .1) (whole .1) other in
+    let after = pages-read (suc (pageNumber (p .entry))) ps rest (up .1) (whole .1) other in
     (rw (append-assoc, here .0, here .1, after .0), rw append-assoc (ap (pastPages (entriesOf ps)) (here .1) ∙ after .1))

@@ -8,14 +8,16 @@ use lib.ListN.{length, length-append}
 use lib.Seq.{drop-at}
 use lib.Dec.{eqb}
 use borrow.Author.Tests.{eqb-true, not-true}
+use Rattle.numbers.specs.Numbers.{littleBytes}
+use Rattle.numbers.proofs.Laws.{little-length}
 use Rattle.pages.specs.Pages.{pageOf}
 use Rattle.sheet.specs.Digits.{Below}
 use Rattle.sheet.specs.Lines.{isLine, values}
 use Rattle.sheet.specs.Sheets.{WholePages, wordLine, wordLines, slots, pagesWords}
-use Rattle.sheet.specs.Reading.{value, next, isWord, slotValue, pastSlot, littleBytes, slotBytes, pastSlots, pagesIn, pastPages}
+use Rattle.sheet.specs.Reading.{value, next, isWord, slotValue, pastSlot, slotBytes, pastSlots, pagesIn, pastPages}
 use Rattle.sheet.specs.declared.line.Line.the-variants.{Word}
 use Rattle.sheet.proofs.LineLaws.{line-values, values-below}
-use Rattle.sheet_claims.proofs.Bytes.{below-none, below-append, below-first, below-rest, below-little-bytes, length-little-bytes, little-of-bytes}
+use Rattle.sheet_claims.proofs.Bytes.{below-none, below-append, below-first, below-rest, below-little-bytes, little-of-bytes}
 use Rattle.sheet_claims.proofs.LineKinds.{word-fields, no-line, no-word}
 
 -- ---- one value
@@ -52,7 +54,7 @@ slot-small address ls = go (isWord address (next ls))
 slots-long : (address n : ℕ) (ls : List (List ℕ)) → length (slotBytes address n ls) ≡ 8 * n
 unfolding slotBytes
 slots-long address zero ls = refl
-slots-long address (suc n) ls = rw (length-append, length-little-bytes, slots-long (address + 8) n (pastSlot address ls)) (omega arith)
+slots-long address (suc n) ls = rw (length-append, little-length, slots-long (address + 8) n (pastSlot address ls)) (omega arith)
 
 slots-small : (address n : ℕ) (ls : List (List ℕ)) → Below 256 (slotBytes address n ls)
 unfolding slotBytes
@@ -68,7 +70,7 @@ slots-taken address zero ls = refl
 slots-taken address (suc n) ls =
     let v : ℕ = slotValue address ls in
     let more : List ℕ = slotBytes (address + 8) n (pastSlot address ls) in
-    rw (little-of-bytes 8 v more (slot-small address ls), drop-at (littleBytes 8 v) more 8 (length-little-bytes 8 v))
+    rw (little-of-bytes 8 v more (slot-small address ls), drop-at (littleBytes 8 v) more 8 (little-length 8 v))
     (rw (append-assoc, slots-taken (address + 8) n (pastSlot address ls)) (slot-taken address ls))
 
 pub words-taken : (entries : List ℕ) (ls : List (List ℕ)) → pagesWords (pagesIn entries ls) ++ pastPages entries ls ≡ ls

@@ -4,7 +4,7 @@ use Rattle.sheet_claims.specs.Worked.{Worked}
 use Rattle.sheet_claims.specs.RoundTrips.{SavedSheeted, ReadsBack, WritesBack}
 use Rattle.sheet_claims.specs.FirstBadLine.{FromOne, Before, NotHere}
 use Rattle.sheet_claims.specs.EqualMeaning.{EqualText, EqualWrites}
-use Rattle.sheet_claims.specs.LentBuffers.{LongestText, WrittenRead, ReadWritten, ReadUntouched, WriteUntouched}
+use Rattle.sheet_claims.specs.LentBuffers.{LongestText, WrittenRead, PagesReadBack, ReadWritten, ReadUntouched, WriteUntouched}
 
 pub record Promises : Type 0 where
   pub worked : Worked
@@ -18,6 +18,7 @@ pub record Promises : Type 0 where
   pub equal-writes : EqualWrites
   pub longest-text : LongestText
   pub written-read : WrittenRead
+  pub pages-read-back : PagesReadBack
   pub read-written : ReadWritten
   pub read-untouched : ReadUntouched
   pub write-untouched : WriteUntouched

@@ -3,11 +3,11 @@ use mathlib.Core.Path.{_≡_}
 use mathlib.Core.List.{List}
 use Prim.Native.Nat.{ℕ, _^_}
 use lib.ListN.{length}
+use Rattle.processor.specs.Layout.{goodState}
 use Rattle.replay.specs.Run.{checkBy}
 use Rattle.replay.specs.declared.steps.Tested.the-variants.{Passed}
 use Rattle.sheet.specs.Digits.{Below}
 use Rattle.sheet.specs.Sheets.{Saved, Sheeted, savedOf, text}
-use Rattle.sheet_write.specs.Writes.{goodState}
 use Rattle.sheet.specs.Reading.{parsed, sheet}
 
 -- what passed the tests of a run is saved as a run that has a sheet, its pages ascending

@@ -6,7 +6,7 @@ use mathlib.Core.List.{List, _∷_}
 use native.Mathlib.Omega.{arith}
 use lib.ListN.{length, take, drop, length-drop}
 use lib.Seq.{drop-drop}
-use Rattle.pages.specs.Pages.{frameOf}
+use Rattle.pages.specs.Pages.{pageNumber}
 use Rattle.sheet.specs.Digits.{Below}
 use Rattle.sheet.specs.Lines.{lines, begins, form, numeral, first, width, fieldCount, isLine}
 use Rattle.sheet.specs.Reading.{value}
@@ -42,6 +42,6 @@ pub number-there : {v w : ℕ} → Number w ≡ NoNumber → v ≡ w
 number-there e = let z : _≡_ {A = ℕ} 0 1 = cc in absurd (omega arith)
 
 -- the number of a page has room for one more
-pub frame-room : (l : List ℕ) → frameOf (value Page 0 l) + 1 < 2 ^ 64
-unfolding frameOf Below
-frame-room l = let small = values-below Page l 0 in omega arith
+pub page-number-room : (l : List ℕ) → pageNumber (value Page 0 l) + 1 < 2 ^ 64
+unfolding pageNumber Below
+page-number-room l = let small = values-below Page l 0 in omega arith

@@ -10,8 +10,7 @@ use lib.ListN.{length, take, drop}
 use lib.Seq.{take-at}
 use Rattle.numbers.specs.Buffers.{laid}
 use Rattle.pages.specs.Pages.{pageBytes, pageLimit}
-use Rattle.processor.specs.State.{inRange}
-use Rattle.processor.specs.Layout.{fields, stateOf}
+use Rattle.processor.specs.Layout.{fields, goodState}
 use Rattle.answers.specs.declared.answer.Refusal.{Refusal}
 use Rattle.answers.specs.declared.answer.Refusal.the-variants.{Length}
 use Rattle.instructions.specs.Instruction.{instructionWords}
@@ -78,7 +77,7 @@ module _ (t : List ℕ) (shape : Shape) (s : Shaped t shape) where
   words-long = numbers-long Do (shape .steps) t (s .steps)
 
   pub tested-is : tested (savedAt t shape)
-      ≡ checkBy (numbersIn Page (shape .pages) t) (pageBytes * shape .pages .count) (inRange (stateOf (numbersIn State (shape .state) t))) (instructionWords * shape .steps .count)
+      ≡ checkBy (numbersIn Page (shape .pages) t) (pageBytes * shape .pages .count) (goodState (numbersIn State (shape .state) t)) (instructionWords * shape .steps .count)
   unfolding tested savedAt
   tested-is = rw (entries-are, bytes-long, words-long)
 

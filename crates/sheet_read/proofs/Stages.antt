@@ -11,7 +11,7 @@ use lib.ListN.{length, take, drop}
 use lib.Seq.{drop-drop}
 use lib.Dec.{eqb, leb}
 use borrow.Author.Tests.{not-true, eqb-true, eq-eqb, ne-eqb, le-leb, lt-leb}
-use Rattle.pages.specs.Pages.{pageOf, frameOf}
+use Rattle.pages.specs.Pages.{pageOf, pageNumber}
 use Rattle.numbers.specs.Numbers.{littleBytes}
 use Rattle.sheet.specs.Lines.{lines, begins, form, width, isLine}
 use Rattle.sheet.specs.Sheets.{slots, lineCount}
@@ -42,7 +42,7 @@ lead-if kind l ls n false e passed rest = tt
 -- ---- pages
 
 page-cons : (least : ℕ) (l : List ℕ) (ls : List (List ℕ)) → isLine Page l ≡ true
-    → pageCount least (l ∷ ls) ≡ cond (leb least (frameOf (value Page 0 l))) (suc (pageCount (suc (frameOf (value Page 0 l))) ls)) 0
+    → pageCount least (l ∷ ls) ≡ cond (leb least (pageNumber (value Page 0 l))) (suc (pageCount (suc (pageNumber (value Page 0 l))) ls)) 0
 unfolding pageCount
 page-cons least l ls h = rw h
 
@@ -55,22 +55,22 @@ pub page-end : (t : List ℕ) (at least : ℕ) → begins (form Page) (drop at t
 page-end t at least other = page-other least (lines (drop at t)) (next-line Page (drop at t) ∙ other)
 
 module _ (t : List ℕ) (at least entry : ℕ) (begun : begins (form Page) (drop at t) ≡ true) (entry-is : entry ≡ value Page 0 (take (width Page) (drop at t))) where
-  page-here : pageCount least (lines (drop at t)) ≡ cond (leb least (frameOf entry)) (suc (pageCount (suc (frameOf entry)) (lines (drop (at + width Page) t)))) 0
+  page-here : pageCount least (lines (drop at t)) ≡ cond (leb least (pageNumber entry)) (suc (pageCount (suc (pageNumber entry)) (lines (drop (at + width Page) t)))) 0
   page-here =
       rw (lines-at Page t at begun, page-cons least (take (width Page) (drop at t)) (lines (drop (at + width Page) t)) (is-line Page t at begun), ← entry-is)
 
-  pub page-turn : least ≤ frameOf entry → pageCount least (lines (drop at t)) ≡ 1 + pageCount (frameOf entry + 1) (lines (drop (at + width Page) t))
+  pub page-turn : least ≤ pageNumber entry → pageCount least (lines (drop at t)) ≡ 1 + pageCount (pageNumber entry + 1) (lines (drop (at + width Page) t))
   page-turn above = rw (page-here, le-leb _ _ above, add-one, one-add)
 
-  pub page-low : frameOf entry < least → pageCount least (lines (drop at t)) ≡ 0
+  pub page-low : pageNumber entry < least → pageCount least (lines (drop at t)) ≡ 0
   page-low low = rw (page-here, lt-leb _ _ low)
 
 pub lead-pages : (least : ℕ) (ls : List (List ℕ)) → Lead Page (pageCount least ls) ls
 unfolding pageCount Lead
 lead-pages least [] = tt
 lead-pages least (l ∷ ls) =
-    let next : ℕ = suc (frameOf (value Page 0 l)) in
-    lead-if Page l ls (pageCount next ls) (isLine Page l) refl (leb least (frameOf (value Page 0 l))) (lead-pages next ls)
+    let next : ℕ = suc (pageNumber (value Page 0 l)) in
+    lead-if Page l ls (pageCount next ls) (isLine Page l) refl (leb least (pageNumber (value Page 0 l))) (lead-pages next ls)
 
 -- ---- plain lines
 

@@ -4,8 +4,8 @@ use mathlib.Core.Bool.{Bool, cond, _&&_}
 use mathlib.Core.List.{List}
 use lib.ListN.{length}
 use lib.Dec.{leb}
-use Rattle.processor.specs.State.{inRange}
-use Rattle.processor.specs.Layout.{stateOf}
+use Rattle.answers.specs.Answer.{refusalNumber, roomNumber, sheetNumber}
+use Rattle.processor.specs.Layout.{goodState}
 use Rattle.replay.specs.Run.{checkBy}
 use Rattle.replay.specs.declared.steps.Tested.{Tested}
 use Rattle.replay.specs.declared.steps.Tested.the-variants.{Passed, Failed}
@@ -15,6 +15,13 @@ use Rattle.numbers.specs.Buffers.{laid}
 use Rattle.sheet_read.specs.declared.buffers.Sizes.{Sizes}
 use Rattle.sheet_read.specs.declared.buffers.Reading.{Reading}
 use Rattle.sheet_read.specs.declared.buffers.Reading.the-variants.{Done, NoSheet, Refused, TooLong}
+
+-- the refusal of a read, or 0
+abbrev pub readNumber : Reading → ℕ
+readNumber (Done sizes) = 0
+readNumber (NoSheet line) = sheetNumber
+readNumber (Refused refusal) = refusalNumber refusal
+readNumber (TooLong sizes) = roomNumber
 
 -- what is read into
 pub record Buffers : Type 0 where
@@ -33,7 +40,7 @@ untouched answer lent = record { answer = answer; buffers = lent }
 
 -- refusals 1, 2, 3, 4, 5 and 7, as before a run
 unfoldable pub tested : Saved → Tested
-tested s = checkBy (entriesOf (s .pages)) (length (bytesOf (s .pages))) (inRange (stateOf (s .state))) (length (s .words))
+tested s = checkBy (entriesOf (s .pages)) (length (bytesOf (s .pages))) (goodState (s .state)) (length (s .words))
 
 -- how much a run takes
 unfoldable pub sizesOf : Saved → Sizes

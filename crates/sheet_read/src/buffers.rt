@@ -3,9 +3,8 @@ ghost use mathlib.Core.Path.{_≡_};
 ghost use Prim.Native.Nat.{_*_, _≤_};
 ghost use lib.ListN.{length};
 ghost use Rattle.pages.specs.Pages.{pageBytes, pageLimit};
-ghost use Rattle.processor.specs.State.{inRange};
 ghost use Rattle.instructions.specs.Instruction.{instructionWords};
-ghost use Rattle.processor.specs.Layout.{fields, stateOf};
+ghost use Rattle.processor.specs.Layout.{fields, goodState};
 ghost use Rattle.replay.specs.declared.steps.Tested.the-variants.{Passed};
 ghost use Rattle.sheet.specs.declared.line.Line.the-variants.{State as StateLine};
 ghost use Rattle.sheet_read.specs.Scan.{numbersIn, savedAt, roomFor, Shaped};
@@ -46,7 +45,7 @@ pub enum Reading {
 // Whether the state is in range.
 fn is_good(text: &[u8], shape: Shape) -> bool
     requires { ⌜ Shaped (now text) shape ⌝ }
-    ensures { λ r. ⌜ r ≡ inRange (stateOf (numbersIn StateLine (shape .state) (now (text .entry)))) ⌝ }
+    ensures { λ r. ⌜ r ≡ goodState (numbersIn StateLine (shape .state) (now (text .entry))) ⌝ }
 {
     let mut fields = [0u64; FIELDS];
     fill_lines(Line::State, text, shape.state, &mut fields);
@@ -65,7 +64,12 @@ fn judge(text: &[u8], shape: Shape) -> Tested
     let good = is_good(text, shape);
     let mut entries = [0u64; PAGE_LIMIT];
     fill_lines(Line::Page, text, shape.pages, &mut entries);
-    replay::check(&entries[..pages], PAGE_BYTES * pages, good, INSTRUCTION_WORDS * shape.steps.count)
+    replay::check(
+        &entries[..pages],
+        PAGE_BYTES * pages,
+        good,
+        INSTRUCTION_WORDS * shape.steps.count,
+    )
 }
 
 // Whether every part fits its buffer, of these lengths.

@@ -11,7 +11,7 @@ ghost use Rattle.sheet_read.specs.Scan.{Stands, numbersIn, slotCount, wo
 use crate::stage::Stage;
 use crate::stage::field;
 use crate::stage::past;
-use memory::frame;
+use memory::page_number;
 use memory::page_of;
 use sheet::Line;
 use sheet::SLOTS;
@@ -40,11 +40,11 @@ fn count_pages(text: &[u8], at: usize) -> usize
     let mut least: u64 = 0;
     let mut here = at;
     while Line::Page.stands(text, here) {
-        let frame = frame(field(Line::Page, text, here, 0));
-        if frame < least {
+        let number = page_number(field(Line::Page, text, here, 0));
+        if number < least {
             return n;
         }
-        least = frame + 1;
+        least = number + 1;
         n += 1;
         here = past(Line::Page, here, 1);
     }

@@ -9,7 +9,7 @@ use native.Mathlib.Numerals.{add-one}
 use lib.ListN.{length, getD, take, drop, length-drop}
 use lib.Seq.{drop-drop}
 use Rattle.numbers.specs.Numbers.{numberAt}
-use Rattle.pages.specs.Pages.{pageBytes, pageOf, frameOf}
+use Rattle.pages.specs.Pages.{pageBytes, pageOf, pageNumber}
 use Rattle.pages.specs.Order.{Nearest}
 use Rattle.sheet.specs.Lines.{fieldCount, line, joined}
 use Rattle.sheet.specs.Sheets.{Page, wordLine, wordLines, slots, plainLines, allPlain}
@@ -87,7 +87,7 @@ module _ (kind : Line) (numbers : List ℕ) (at : ℕ) where
 
 -- ---- the pages
 
--- those with no frame below `least`
+-- those with no page number below `least`
 abbrev pub pagesFrom : Pass → List ℕ → List ℕ → ℕ → List ℕ
 pagesFrom pass entries bytes least = joined (allLines pass (from least (inOrder entries bytes)))
 
@@ -97,31 +97,31 @@ pages-cons pass p ps = record { split = joined-append (linesOf pass p) (allLines
 
 module _ (entries bytes : List ℕ) (least place : ℕ) (nearest : Nearest entries least (length entries) place) where
   module _ (h : place < length entries) (lent : Lent entries bytes) where
-    next-page : from least (inOrder entries bytes) ≡ pageIn entries bytes place ∷ from (frameOf (getD entries place 0) + 1) (inOrder entries bytes)
+    next-page : from least (inOrder entries bytes) ≡ pageIn entries bytes place ∷ from (pageNumber (getD entries place 0) + 1) (inOrder entries bytes)
     next-page =
         next-left entries bytes least place h (nearest .own h)
         (λ i inside other at.
         let behind = nearest .first i inside at .1 in
-        let apart : frameOf (getD entries i 0) ≡ frameOf (getD entries place 0) → ⊥ = λ e. other (lent .apart i place inside h e) in
+        let apart : pageNumber (getD entries i 0) ≡ pageNumber (getD entries place 0) → ⊥ = λ e. other (lent .apart i place inside h e) in
         omega arith)
 
-    module _ (frame : ℕ) (frame-is : frame ≡ frameOf (getD entries place 0)) where
+    module _ (page-number : ℕ) (page-number-is : page-number ≡ pageNumber (getD entries place 0)) where
       -- the page as the code lends it
       pub pages-turn : (pass : Pass)
           → Begins (pagesFrom pass entries bytes least)
           (joined (linesOf pass (record { entry = getD entries place 0; bytes = take (pageBytes * place + pageBytes - pageBytes * place) (drop (pageBytes * place) bytes) })))
-          (pagesFrom pass entries bytes (frame + 1))
+          (pagesFrom pass entries bytes (page-number + 1))
       pages-turn pass =
-          rw (frame-is, part (pageBytes * place) pageBytes bytes, next-page)
-          (pages-cons pass (pageIn entries bytes place) (from (frameOf (getD entries place 0) + 1) (inOrder entries bytes)))
+          rw (page-number-is, part (pageBytes * place) pageBytes bytes, next-page)
+          (pages-cons pass (pageIn entries bytes place) (from (pageNumber (getD entries place 0) + 1) (inOrder entries bytes)))
 
-      pub pages-less : length (from (frame + 1) (inOrder entries bytes)) < length (from least (inOrder entries bytes))
-      pages-less = rw frame-is (let one = ap length next-page in omega arith)
+      pub pages-less : length (from (page-number + 1) (inOrder entries bytes)) < length (from least (inOrder entries bytes))
+      pages-less = rw page-number-is (let one = ap length next-page in omega arith)
 
   pub pages-end : length entries ≤ place → (pass : Pass) → pagesFrom pass entries bytes least ≡ []
   unfolding allLines joined
   pages-end h pass =
-      rw (none-left entries bytes least (λ i inside. ⊎-elim (λ at. absurd (let found = nearest .first i inside at .0 in omega arith)) (λ below. below) (le-or-lt least (frameOf (getD entries i 0)))))
+      rw (none-left entries bytes least (λ i inside. ⊎-elim (λ at. absurd (let found = nearest .first i inside at .0 in omega arith)) (λ below. below) (le-or-lt least (pageNumber (getD entries i 0)))))
 
 pub pages-start : (pass : Pass) (entries bytes : List ℕ) → joined (allLines pass (inOrder entries bytes)) ≡ pagesFrom pass entries bytes 0
 pages-start pass entries bytes = ap (λ (ps : List Page). joined (allLines pass ps)) (sym (from-zero (inOrder entries bytes)))
@@ -138,6 +138,6 @@ pub values-text : (pass : Pass) (entry : ℕ) (page : List ℕ) (base : ℕ) →
 values-text pass entry page base e base-is = rw (e, base-is)
 
 -- the number of a page has room for one more
-pub frame-room : (entry frame : ℕ) → entry < 2 ^ 64 → frame ≡ frameOf entry → frame + 1 < 2 ^ 64
-unfolding frameOf
-frame-room entry frame h frame-is = omega arith
+pub page-number-room : (entry page-number : ℕ) → entry < 2 ^ 64 → page-number ≡ pageNumber entry → page-number + 1 < 2 ^ 64
+unfolding pageNumber
+page-number-room entry page-number h page-number-is = omega arith

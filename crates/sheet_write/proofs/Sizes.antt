@@ -10,7 +10,7 @@ use lib.ListN.{length, take, drop, length-append, length-drop}
 use lib.Seq.{length-take-le, drop-drop, take-nil, getD-take}
 use lib.Dec.{eqb}
 use Rattle.numbers.specs.Numbers.{numberAt}
-use Rattle.pages.specs.Pages.{pageBytes, pageOf, frameOf}
+use Rattle.pages.specs.Pages.{pageBytes, pageOf, pageNumber}
 use Rattle.processor.specs.Layout.{fields}
 use Rattle.sheet.specs.Lines.{fieldCount, line, width, joined}
 use Rattle.sheet.specs.Sheets.{Page, lineCount, wordLine, wordLines, slots, plainLines, pagesOf, insert, ascended, version, text, savedOf}
@@ -128,7 +128,7 @@ size-insert pass p (q ∷ qs) =
     let rest = size-insert pass p qs in
     let both = size-cons pass q qs in
     omega arith)
-    (le-or-lt (frameOf (p .entry)) (frameOf (q .entry)))
+    (le-or-lt (pageNumber (p .entry)) (pageNumber (q .entry)))
 
 size-ascended : (pass : Pass) (ps : List Page) → size pass (ascended ps) ≡ size pass ps
 unfolding ascended

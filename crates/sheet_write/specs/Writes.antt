@@ -4,6 +4,7 @@ use mathlib.Core.Bool.{cond}
 use mathlib.Core.List.{List}
 use lib.ListN.{length}
 use lib.Dec.{leb}
+use Rattle.answers.specs.Answer.{refusalNumber, roomNumber}
 use Rattle.processor.specs.Layout.{goodState}
 use Rattle.replay.specs.Run.{checkBy}
 use Rattle.replay.specs.declared.steps.Tested.{Tested}
@@ -12,6 +13,12 @@ use Rattle.sheet.specs.Sheets.{savedOf, text}
 use Rattle.numbers.specs.Buffers.{laid}
 use Rattle.sheet_write.specs.declared.text.Writing.{Writing}
 use Rattle.sheet_write.specs.declared.text.Writing.the-variants.{Done, Refused, TooLong}
+
+-- the refusal of a write, or 0
+abbrev pub writeNumber : Writing → ℕ
+writeNumber (Done long) = 0
+writeNumber (Refused refusal) = refusalNumber refusal
+writeNumber (TooLong long) = roomNumber
 
 -- the answer, and what the text's buffer holds
 pub record Written : Type 0 where

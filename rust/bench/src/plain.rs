@@ -1,12 +1,12 @@
 //! The plain replay: the rules (docs/RULES.md) in ordinary Rust, without a proof. It is what the
 //! proved replay is measured against, so it spends nothing needlessly, and it has no index and no
-//! cache: each byte of an access is looked up by walking the page list from the front.
+//! cache: each byte of an access is looked up by walking the page list from the front. It has the
+//! codes that the measured runs have, 1 to 8, and panics where another one comes.
 
 const PAGE_SIZE: usize = 4096;
 const MAX_PAGES: usize = 16;
 const MAX_INSTRUCTIONS: usize = 1024;
 const OFFSET: u64 = 0xFFF;
-const LOW_16: u64 = 0xFFFF;
 const LOW_32: u64 = 0xFFFF_FFFF;
 
 const USER_SHADOW: u64 = 1;
@@ -33,7 +33,6 @@ enum Stop {
 const UD: Stop = fault(6, 0);
 const SS: Stop = fault(12, 0);
 const GP: Stop = fault(13, 0);
-const CP_NEAR_RET: Stop = fault(21, 1);
 const CP_RSTORSSP: Stop = fault(21, 4);
 
 const fn fault(vector: u64, error: u64) -> Stop {
@@ -167,12 +166,12 @@ impl State {
         }
     }
 
-    /// How many bytes a call pushes and a return pops.
+    /// How many bytes a call pushes.
     fn return_size(&self) -> usize {
         if self.is_64_bit() { 8 } else { 4 }
     }
 
-    /// Whether a call or a return may go there.
+    /// Whether a call may go there.
     fn is_target(&self, target: u64) -> bool {
         if self.is_64_bit() {
             is_canonical(target)
@@ -194,21 +193,17 @@ impl Instruction {
     fn is_allowed(&self, mode: u64) -> bool {
         let unused = match self.code {
             1 | 2 => self.a,
-            3 | 7 | 8 | 10 => self.b,
-            4 | 9 => self.a | self.b,
-            5 | 6 | 11 | 12 => 0,
-            _ => return false,
+            3 | 7 | 8 => self.b,
+            4 => self.a | self.b,
+            5 | 6 => 0,
+            code => panic!("the plain replay has no code {code}"),
         };
         let fits_mode = match mode {
-            0 => !matches!(self.code, 7..=10),
-            1 => !matches!(self.code, 2 | 6 | 12) && self.a <= LOW_32 && self.b <= LOW_32,
+            0 => !matches!(self.code, 7 | 8),
+            1 => !matches!(self.code, 2 | 6) && self.a <= LOW_32 && self.b <= LOW_32,
             _ => true,
         };
-        let is_narrow = match self.code {
-            7 => self.a <= LOW_32,
-            10 => self.a <= LOW_16,
-            _ => true,
-        };
+        let is_narrow = self.code != 7 || self.a <= LOW_32;
         (1..=15).contains(&self.length) && unused == 0 && fits_mode && is_narrow
     }
 }
@@ -256,16 +251,11 @@ impl Machine<'_> {
     }
 
     fn shadow(&self, first: u64, size: usize) -> Result<Span, Stop> {
-        self.shadow_of(self.state.shadow_kind(), first, size)
-    }
-
-    /// The bytes of a shadow access to pages of this kind.
-    fn shadow_of(&self, kind: u64, first: u64, size: usize) -> Result<Span, Stop> {
         ensure(!self.state.is_64_bit() || are_canonical(first, size), GP)?;
-        self.span(kind, first, size)
+        self.span(self.state.shadow_kind(), first, size)
     }
 
-    /// The bytes of an ordinary push, `first` being the moved stack pointer, or of an ordinary pop.
+    /// The bytes of an ordinary push, `first` being the moved stack pointer.
     fn ordinary(&self, first: u64, size: usize) -> Result<Span, Stop> {
         let is_good = if self.state.is_64_bit() {
             are_canonical(first, size)
@@ -345,15 +335,6 @@ impl Machine<'_> {
         Ok(())
     }
 
-    fn wruss(&mut self, size: usize, address: u64, value: u64) -> Result<(), Stop> {
-        ensure(self.state.cet == 1, UD)?;
-        ensure(self.state.cpl == 0, GP)?;
-        ensure(address.is_multiple_of(size as u64), GP)?;
-        let span = self.shadow_of(USER_SHADOW, address, size)?;
-        self.store(&span, value);
-        Ok(())
-    }
-
     /// `has_frame` is false for a relative call of the next line, which has nothing to do with the
     /// shadow stack.
     fn call(&mut self, next: u64, target: u64, has_frame: bool) -> Result<(), Stop> {
@@ -373,22 +354,6 @@ impl Machine<'_> {
         Ok(())
     }
 
-    /// Gives where it returns to. SP moves up by `released` besides what is popped.
-    fn ret(&mut self, released: u64) -> Result<u64, Stop> {
-        let state = self.state;
-        let size = state.return_size();
-        let target = self.load(&self.ordinary(state.sp, size)?);
-        let mut ssp = state.ssp;
-        if state.is_enabled() {
-            ensure(self.load(&self.shadow(ssp, size)?) == target, CP_NEAR_RET)?;
-            ssp = state.plus(ssp, size as u64);
-        }
-        ensure(state.is_target(target), GP)?;
-        self.state.ssp = ssp;
-        self.state.sp = state.plus(state.sp, size as u64 + released);
-        Ok(target)
-    }
-
     /// One instruction. Nothing has changed where it stops.
     fn step(&mut self, instruction: &Instruction) -> Result<(), Stop> {
         let state = self.state;
@@ -396,7 +361,7 @@ impl Machine<'_> {
         ensure(state.mode != 0, UD)?;
         let Instruction { code, length, a, b } = *instruction;
         let next = state.plus(state.ip, length);
-        let mut ip = match code {
+        let ip = match code {
             7 => state.wrap(next.wrapping_add_signed(i64::from(a as u32 as i32))),
             8 => a,
             _ => next,
@@ -409,10 +374,7 @@ impl Machine<'_> {
             5 => self.wrss(4, a, b)?,
             6 => self.wrss(8, a, b)?,
             7 => self.call(next, ip, a != 0)?,
-            8 => self.call(next, ip, true)?,
-            9 | 10 => ip = self.ret(a)?,
-            11 => self.wruss(4, a, b)?,
-            _ => self.wruss(8, a, b)?,
+            _ => self.call(next, ip, true)?,
         }
         self.state.ip = ip;
         Ok(())
@@ -469,7 +431,12 @@ fn run(
 
 /// Replays a run; the shape is that of the C function. Returns 0 when all instructions completed,
 /// the refusal (1 to 7), or 256 plus the vector of a fault. `report` gets count, refusal, vector,
-/// error code and address; if it has fewer than five words the answer is 8 and nothing is done.
+/// error code and address.
+///
+/// # Panics
+///
+/// Where an instruction has a code other than 1 to 8, or `report` fewer than five words: of these
+/// the plain replay has no rules.
 pub fn run_raw(
     state: &mut [u64],
     pages: &[u64],
@@ -477,9 +444,8 @@ pub fn run_raw(
     words: &[u64],
     report: &mut [u64],
 ) -> u64 {
-    let Some(report) = report.first_chunk_mut::<5>() else {
-        return 8;
-    };
+    let report = report.first_chunk_mut::<5>();
+    let report = report.expect("the plain replay needs a report of five words");
     let mut count = 0;
     let result = run(state, pages, bytes, words, &mut count);
     let (answer, refusal, vector, error, address) = match result {

@@ -13,7 +13,8 @@ pub const PF: u64 = 14;
 /// The vector of #CP.
 pub const CP: u64 = 21;
 
-/// What the interface returns where the room for the report is too short.
+/// What the interface returns where the room for the report is too short and
+/// nothing else is wrong.
 pub const SHORT_REPORT: u64 = 8;
 
 /// What the interface adds to a vector.
@@ -90,6 +91,15 @@ impl Answer {
             (0, 0) => 0,
             (0, vector) => FAULT + vector,
             (refusal, _) => refusal,
+        }
+    }
+
+    /// What the interface returns where the report is too short: a refusal that
+    /// comes before any step, or else that there is no room.
+    pub fn unreported(&self) -> u64 {
+        match self.refusal {
+            early @ (1..=5 | 7) => early,
+            _ => SHORT_REPORT,
         }
     }
 

@@ -1,6 +1,6 @@
 //! What a run is given, and what is seen of it afterwards.
 
-use crate::answer::{Answer, SHORT_REPORT};
+use crate::answer::Answer;
 use driftpocket_reference::dice::Dice;
 use driftpocket_reference::pages::PAGE_BYTES;
 use driftpocket_reference::runs::{self, Input};
@@ -225,10 +225,10 @@ pub fn foretell(case: &Case) -> Seen {
 
 /// The same from a report of the second program.
 pub fn foretell_from(case: &Case, run: &runs::Report) -> Seen {
-    if case.room < REPORT_WORDS {
-        return Seen::untouched(case, SHORT_REPORT);
-    }
     let answer = Answer::of(&run.ending);
+    if case.room < REPORT_WORDS {
+        return Seen::untouched(case, answer.unreported());
+    }
     let mut report = case.blank_report();
     report[..REPORT_WORDS].copy_from_slice(&answer.report(run.count));
     Seen {

@@ -2,7 +2,7 @@
 //! something between has spoiled.
 
 use crate::case::{FOUR_GIB, field};
-use crate::operands::byte_count;
+use crate::operations::ret::byte_count;
 use crate::world::World;
 use driftpocket_reference::dice::Dice;
 

@@ -10,13 +10,9 @@
 //! * [`difference`]: two sightings side by side, and only what differs.
 //! * [`damage`]: ways to spoil an input so that it is refused.
 //! * [`rows`]: cases with what must come of them, written out by hand.
-//! * [`worked`]: the worked cases P1 to P19 of the rules.
-//! * [`worked_returns`]: those of RET and WRUSS, R1 to R17.
-//! * [`edges`]: limits of lists, lengths, pointers and targets.
-//! * [`tokens`]: tokens that are just right and just wrong.
-//! * [`calls_of_next`]: calls of the next line, relative and absolute.
-//! * [`returns`]: near RET, and what it is given by calls.
-//! * [`user_writes`]: WRUSS, who may and which pages it reaches.
+//! * [`stored`]: the stored sheets, the worked cases of the rules among them.
+//! * [`edges`]: limits of lists, lengths and reports.
+//! * [`operations`]: a file for each operation.
 //! * [`page_ends`]: loads and stores around the end of a page.
 //! * [`refusals`]: every refusal, and their order.
 //! * [`world`]: pages, states and tokens for a random run.
@@ -34,24 +30,20 @@
 
 pub mod answer;
 pub mod author;
-pub mod calls_of_next;
 pub mod case;
 pub mod damage;
 pub mod difference;
 pub mod edges;
 pub mod frames;
 pub mod operands;
+pub mod operations;
 pub mod page_ends;
 pub mod properties;
 pub mod reasons;
 pub mod refusals;
-pub mod returns;
 pub mod rounds;
 pub mod rows;
 pub mod sheets;
+pub mod stored;
 pub mod table;
-pub mod tokens;
-pub mod user_writes;
-pub mod worked;
-pub mod worked_returns;
 pub mod world;

@@ -1,9 +1,9 @@
 //! Instructions that suit a state, or just don't.
 
 use crate::case::{FOUR_GIB, field};
-use crate::world::{LANDMARKS, World};
+use crate::operations::{call, incssp, ret, rstorssp, wrss, wruss};
+use crate::world::World;
 use driftpocket_reference::dice::Dice;
-use driftpocket_reference::pages::PAGE_BYTES;
 
 /// Proposes an instruction for the fields of a state. The last code before it
 /// makes some codes more likely than others.
@@ -47,16 +47,16 @@ fn fill(dice: &mut Dice, world: &World, state: &[u64], code: u64) -> [u64; 4] {
     let length = dice.between(1, 15);
     let next = world.cut(state[field::IP].wrapping_add(length));
     let (mut a, mut b) = match code {
-        1 | 2 => (0, count(dice, state, 4 * code)),
-        3 => (restore_address(dice, world, state), 0),
+        1 | 2 => (0, incssp::count(dice, state, 4 * code)),
+        3 => (rstorssp::restore_address(dice, world, state), 0),
         4 => (0, 0),
-        5 | 6 => write(dice, world, state, 4 * (code - 4)),
-        7 => (displacement(dice, world, state), 0),
+        5 | 6 => wrss::operands(dice, world, state, 4 * (code - 4)),
+        7 => (call::displacement(dice, world, state), 0),
         8 if dice.once_in(8) => (next, 0),
-        8 => (target(dice, world), 0),
+        8 => (call::target(dice, world), 0),
         9 => (0, 0),
-        10 => (byte_count(dice), 0),
-        _ => user_write(dice, world, 4 * (code - 10)),
+        10 => (ret::byte_count(dice), 0),
+        _ => wruss::operands(dice, world, 4 * (code - 10)),
     };
     if !world.is_wide() && !dice.once_in(60) {
         a %= FOUR_GIB;
@@ -99,103 +99,4 @@ fn mangle(dice: &mut Dice, words: &mut [u64; 4]) {
         5 => words[3] ^= FOUR_GIB,
         _ => words[1] += FOUR_GIB,
     }
-}
-
-/// A count register for INCSSP with elements of a size.
-fn count(dice: &mut Dice, state: &[u64], size: u64) -> u64 {
-    let to_page_end = (PAGE_BYTES - state[field::SSP] % PAGE_BYTES) / size;
-    let range = match dice.below(8) {
-        0 => 0,
-        1 => to_page_end,
-        2 => to_page_end + 1,
-        3 => 255,
-        4 => dice.below(256),
-        _ => dice.below(6),
-    };
-    let high = dice.any() & !0xff;
-    (range % 256) + dice.one_of(&[0, 0, 0, 0x100, high])
-}
-
-/// An address for RSTORSSP.
-fn restore_address(dice: &mut Dice, world: &World, state: &[u64]) -> u64 {
-    match dice.below(16) {
-        0 => state[field::SSP],
-        1 => dice.one_of(&world.tokens) ^ dice.one_of(&[4, 1]),
-        2 => world.near_shadow(dice, 8),
-        3 => dice
-            .one_of(&world.ordinary)
-            .wrapping_add(8 * dice.below(512)),
-        _ => dice.one_of(&world.tokens),
-    }
-}
-
-/// An address and a value for WRSS with so many bytes.
-fn write(dice: &mut Dice, world: &World, state: &[u64], size: u64) -> (u64, u64) {
-    let ssp = state[field::SSP];
-    match dice.below(12) {
-        0 | 1 if size == 8 => (ssp, world.previous_token(dice)),
-        2..=5 if size == 8 => {
-            let at = world.near_shadow(dice, 8);
-            (at, world.restore_token(dice, at))
-        }
-        6 => {
-            let off = dice.between(1, size - 1);
-            (world.near_shadow(dice, size).wrapping_add(off), dice.any())
-        }
-        7 => {
-            let inside = size * dice.below(PAGE_BYTES / size);
-            let page = dice.one_of(&world.ordinary);
-            (page.wrapping_add(inside), dice.any())
-        }
-        8 => (ssp.wrapping_add(8), 0),
-        _ => (world.near_shadow(dice, size), dice.any()),
-    }
-}
-
-/// How many bytes a return drops.
-pub fn byte_count(dice: &mut Dice) -> u64 {
-    let any = dice.below(1 << 16);
-    match dice.below(40) {
-        0 => 1 << 16,
-        1 => any << 1,
-        2 => 0xffff,
-        3 => any,
-        4..8 => dice.below(40),
-        _ => 4 * dice.below(6),
-    }
-}
-
-/// An address and a value for WRUSS with so many bytes.
-fn user_write(dice: &mut Dice, world: &World, size: u64) -> (u64, u64) {
-    let at = match dice.below(12) {
-        0 | 1 => {
-            let off = dice.between(1, size - 1);
-            world.near(dice, &world.user, size).wrapping_add(off)
-        }
-        2 => world.near_shadow(dice, size),
-        3 => world.near(dice, &world.ordinary, size),
-        _ => world.near(dice, &world.user, size),
-    };
-    (at, dice.any())
-}
-
-/// A target for an absolute call.
-fn target(dice: &mut Dice, world: &World) -> u64 {
-    let any = dice.any();
-    let near = dice
-        .one_of(&LANDMARKS)
-        .wrapping_add(dice.below(3))
-        .wrapping_sub(1);
-    let limit = world.limit + dice.below(3);
-    let low = dice.below(0x80_0000);
-    dice.one_of(&[low, low, limit.saturating_sub(1), near, any])
-}
-
-/// A displacement for a relative call.
-fn displacement(dice: &mut Dice, world: &World, state: &[u64]) -> u64 {
-    let any = dice.below(FOUR_GIB);
-    let to_target = target(dice, world).wrapping_sub(state[field::IP]);
-    let close = to_target.wrapping_sub(dice.between(0, 16)) % FOUR_GIB;
-    let end = dice.one_of(&[0x7fff_ffff, 0x8000_0000, 0xffff_ffff]);
-    dice.one_of(&[0, 0x10, 0x10, 0xffff_fff0, end, close, any])
 }

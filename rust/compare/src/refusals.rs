@@ -1,7 +1,7 @@
 //! Every refusal, and which of several comes.
 
 use crate::answer::{Answer, GP, PF, UD};
-use crate::case::{FOUR_GIB, field};
+use crate::case::{Case, FOUR_GIB, REPORT_WORDS, field};
 use crate::damage;
 use crate::rows::{Row, plain};
 
@@ -31,6 +31,7 @@ pub fn rows() -> Vec<Row> {
         forms_before_faults(),
         faults_hidden_by_forms(),
         later(),
+        short_reports(),
     ]
     .concat()
 }
@@ -259,4 +260,37 @@ fn later() -> Vec<Row> {
             Answer::refusal(6),
         ),
     ]
+}
+
+/// Runs that are not refused before their first step. With a report that is too
+/// short it is never made.
+fn started() -> [(&'static str, Case); 5] {
+    let [good, broken, fault] = [GOOD[0], [0; 4], [3, 4, 0x2ff4, 0]];
+    [
+        ("all good", plain(&[good])),
+        ("no instruction", plain(&[])),
+        ("a broken form", plain(&[broken])),
+        ("a broken form, second", plain(&[good, broken])),
+        ("a fault", plain(&[fault])),
+    ]
+}
+
+/// Reports that are too short. What is refused before any step is refused all the
+/// same, and all else is 8.
+fn short_reports() -> Vec<Row> {
+    let mut rows = Vec::new();
+    for room in 0..REPORT_WORDS {
+        let name = |what| format!("{what}, room for {room} words");
+        for spoiler in damage::all() {
+            let mut case = plain(&[[0; 4]]);
+            (spoiler.spoil)(&mut case);
+            let case = Case { room, ..case };
+            rows.push(Row::too_short(name(spoiler.name), case, spoiler.refusal));
+        }
+        for (what, case) in started() {
+            let case = Case { room, ..case };
+            rows.push(Row::too_short(name(what), case, 8));
+        }
+    }
+    rows
 }

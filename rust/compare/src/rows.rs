@@ -4,7 +4,7 @@
 //! instruction and all else as it was. What the rules say beyond that is told
 //! to it step by step.
 
-use crate::answer::{Answer, SHORT_REPORT};
+use crate::answer::Answer;
 use crate::case::{Case, PAGE, Part, REPORT_WORDS, Seen, field, foretell, observe};
 use crate::difference::explain;
 use driftpocket_reference::runs::WORDS;
@@ -94,9 +94,9 @@ impl Row {
         Row::stops(name, case, 0, answer)
     }
 
-    /// A case with too little room for its report.
-    pub fn too_short(name: impl Into<String>, case: Case) -> Row {
-        let wanted = Seen::untouched(&case, SHORT_REPORT);
+    /// A case with too little room for its report. Only this number comes back.
+    pub fn too_short(name: impl Into<String>, case: Case, returned: u64) -> Row {
+        let wanted = Seen::untouched(&case, returned);
         Row {
             name: name.into(),
             case,

@@ -40,6 +40,12 @@ pub struct Parts {
     pub write: Writer,
 }
 
+/// Those of the library.
+pub const LIBRARY: Parts = Parts {
+    read: driftpocket::sheet_read_raw,
+    write: driftpocket::sheet_write_raw,
+};
+
 /// Those of the second program.
 pub const SECOND: Parts = Parts {
     read: sheet::read_sheet,

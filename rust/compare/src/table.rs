@@ -8,6 +8,7 @@
 
 use crate::answer::{CP, GP, PF, SS, UD};
 use crate::case::{Case, Seen, field, is_enabled, own_controls};
+use crate::operations;
 use std::collections::BTreeMap;
 use std::fmt::{self, Write};
 
@@ -57,17 +58,17 @@ pub struct Cell {
 }
 
 /// A reason why some cells stay empty.
-struct Law {
+pub(crate) struct Law {
     reason: &'static str,
     forbids: fn(&Cell) -> bool,
 }
 
 /// A law in one expression.
-const fn law(reason: &'static str, forbids: fn(&Cell) -> bool) -> Law {
+pub(crate) const fn law(reason: &'static str, forbids: fn(&Cell) -> bool) -> Law {
     Law { reason, forbids }
 }
 
-/// All reasons why cells stay empty.
+/// All reasons why cells stay empty, but for those of one operation alone.
 const LAWS: &[Law] = &[
     law(
         "refusals are 1 to 7, vectors 6, 12, 13, 14 and 21",
@@ -109,35 +110,15 @@ const LAWS: &[Law] = &[
             && matches!(cell.source, Source::Code(1..=4))
             && cell.vector() == Some(UD)
     }),
-    law("enabled means that CR4.CET is 1, as WRUSS asks", |cell| {
-        cell.is_enabled()
-            && cell.mode() > Some(0)
-            && cell.is_user_write()
-            && cell.vector() == Some(UD)
-    }),
-    law("above CPL 0 WRUSS gives #GP if not #UD", |cell| {
-        let above = cell.column.is_some_and(|column| column.cpl > 0);
-        let further = matches!(cell.class, Class::Completed | Class::Faulted(PF));
-        above && cell.is_user_write() && further
-    }),
     law("a call or return is no invalid opcode", |cell| {
         (cell.is_call() || cell.is_return()) && cell.vector() == Some(UD)
     }),
     law("only RSTORSSP and RET give #CP", |cell| {
         cell.source != Source::Code(3) && !cell.is_return() && cell.vector() == Some(CP)
     }),
-    law("not enabled, RET compares nothing", |cell| {
-        !cell.is_enabled() && cell.is_return() && cell.vector() == Some(CP)
-    }),
     law(
         "only the ordinary stack of calls and returns gives #SS",
         |cell| !cell.is_call() && !cell.is_return() && cell.vector() == Some(SS),
-    ),
-    law(
-        "INCSSP gives #GP only for addresses that mode 1 lacks",
-        |cell| {
-            cell.mode() == Some(1) && cell.source == Source::Code(1) && cell.vector() == Some(GP)
-        },
     ),
 ];
 
@@ -199,15 +180,15 @@ impl Column {
 impl Cell {
     /// Why this cell stays empty, if it does.
     pub fn forbidden(&self) -> Option<&'static str> {
-        let law = LAWS.iter().find(|law| (law.forbids)(self))?;
-        Some(law.reason)
+        let mut laws = LAWS.iter().chain(operations::laws());
+        Some(laws.find(|law| (law.forbids)(self))?.reason)
     }
 
-    fn mode(&self) -> Option<u64> {
+    pub(crate) fn mode(&self) -> Option<u64> {
         self.column.map(|column| column.mode)
     }
 
-    fn is_enabled(&self) -> bool {
+    pub(crate) fn is_enabled(&self) -> bool {
         self.column.is_some_and(|column| column.enabled)
     }
 
@@ -225,7 +206,7 @@ impl Cell {
         self.is_form() || self.vector() == Some(vector)
     }
 
-    fn vector(&self) -> Option<u64> {
+    pub(crate) fn vector(&self) -> Option<u64> {
         match self.class {
             Class::Faulted(vector) => Some(vector),
             _ => None,
@@ -238,12 +219,12 @@ impl Cell {
     }
 
     /// Near RET.
-    fn is_return(&self) -> bool {
+    pub(crate) fn is_return(&self) -> bool {
         matches!(self.source, Source::Code(9 | 10))
     }
 
     /// WRUSS.
-    fn is_user_write(&self) -> bool {
+    pub(crate) fn is_user_write(&self) -> bool {
         matches!(self.source, Source::Code(11 | 12))
     }
 

@@ -3,8 +3,9 @@
 use driftpocket_compare::case::field;
 use driftpocket_compare::page_ends::layout::MIDDLES;
 use driftpocket_compare::rows::{Row, check_all, check_each};
-use driftpocket_compare::{calls_of_next, edges, page_ends, refusals, returns, rounds, tokens};
-use driftpocket_compare::{user_writes, worked, worked_returns};
+use driftpocket_compare::sheets::LIBRARY;
+use driftpocket_compare::stored::{self, Stored};
+use driftpocket_compare::{edges, operations, page_ends, refusals, rounds};
 use std::collections::BTreeSet;
 use wrong::searches::{self, Search};
 
@@ -45,24 +46,25 @@ fn a_difference_can_be_rerun_and_shows_only_what_differs() {
 }
 
 #[test]
-fn fixed_cases_notice_every_wrong_part() {
-    let rows = [
-        worked::rows(),
-        worked_returns::rows(),
-        edges::rows(),
-        tokens::rows(),
-        calls_of_next::rows(),
-        returns::rows(),
-        user_writes::rows(),
-        refusals::rows(),
-    ]
-    .concat();
+fn fixed_cases_and_stored_sheets_notice_every_wrong_part() {
+    let rows = [edges::rows(), operations::rows(), refusals::rows()].concat();
+    let stored = stored::all().unwrap();
     // Wrong searches are for the ends of pages, below.
     let is_search = |name: &str| searches::ALL.iter().any(|(other, _)| *other == name);
     for (name, part) in wrong::all().filter(|(name, _)| !is_search(name)) {
         let noticed = check_each(part, rows.iter()).is_err();
+        let noticed = noticed || stored::first_wrong(LIBRARY, part, stored.iter()).is_some();
         assert!(noticed, "not noticed: {name}");
     }
+}
+
+/// Makes sure that stored sheets whose names begin with one of these notice a
+/// wrong part.
+fn stored_notice(starts: &[&str], part: &str) {
+    let all = stored::all().unwrap();
+    let asked = |one: &&Stored| starts.iter().any(|start| one.name.starts_with(start));
+    let found = stored::first_wrong(LIBRARY, wrong::named(part), all.iter().filter(asked));
+    assert!(found.is_some(), "not noticed: {part}");
 }
 
 #[test]
@@ -74,31 +76,26 @@ fn the_worked_cases_alone_notice_the_poor_parts() {
         "idles after one",
         "counts one too many",
     ] {
-        assert!(
-            check_all(wrong::named(name), &worked::rows()).is_err(),
-            "{name}"
-        );
+        stored_notice(&["worked/p"], name);
     }
 }
 
 #[test]
 fn p14_and_p15_alone_notice_known_mistakes() {
-    let mut rows = worked::rows();
-    rows.retain(|row| ["P14", "P15"].contains(&&row.name[..]));
     for name in [
         "pushes for every call",
         "spares absolute calls of the next line",
         "moves SSP without a push",
         "spares the ordinary stack too",
     ] {
-        assert!(check_all(wrong::named(name), &rows).is_err(), "{name}");
+        stored_notice(&["worked/p14", "worked/p15"], name);
     }
 }
 
 #[test]
-fn calls_of_the_next_line_notice_all_mistakes_about_them() {
-    let rows = calls_of_next::rows();
-    for (name, part) in wrong::CALLS_OF_NEXT {
+fn rows_about_calls_notice_all_mistakes_about_them() {
+    let rows = operations::call::rows();
+    for (name, part) in wrong::CALLS {
         assert!(check_all(*part, &rows).is_err(), "{name}");
     }
 }
@@ -121,10 +118,7 @@ fn the_worked_returns_and_user_writes_alone_notice_known_mistakes() {
         "lets WRUSS reach all pages",
         "writes half of eight bytes",
     ] {
-        assert!(
-            check_all(wrong::named(name), &worked_returns::rows()).is_err(),
-            "{name}"
-        );
+        stored_notice(&["worked/r"], name);
     }
 }
 

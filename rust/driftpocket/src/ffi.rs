@@ -59,8 +59,9 @@ unsafe extern "C" {
 ///   first five words, and keeps what is past them.
 ///
 /// Gives 0 if all instructions completed, the refusal, or 256 plus the vector
-/// of the fault. If `report` has fewer than five words the answer is 8, and
-/// then nothing was run or written.
+/// of the fault. If `report` has fewer than five words, nothing is run or
+/// written; the answer is then 1 to 5 or 7, where one of these is due, and
+/// otherwise 8.
 pub fn run_raw(
     state: &mut [u64],
     pages: &[u64],
@@ -99,7 +100,8 @@ pub fn run_raw(
 ///   any other refusal.
 ///
 /// Gives 0 or the refusal. A refused read changes nothing but `report`. If that
-/// has fewer than five words the answer is 8, and then nothing was written.
+/// has fewer than five words, nothing is written; the answer is then 9, 1, 2, 3,
+/// 5 or 7, where one of these is due, and otherwise 8.
 pub fn sheet_read_raw(
     text: &[u8],
     state: &mut [u64],
@@ -137,7 +139,8 @@ pub fn sheet_read_raw(
 ///   and 0 with any other refusal.
 ///
 /// Gives 0 or the refusal. A refused write changes nothing but `report`. If
-/// that has fewer than two words the answer is 8, and then nothing was written.
+/// that has fewer than two words, nothing is written; the answer is then 1 to 5
+/// or 7, where one of these is due, and otherwise 8.
 pub fn sheet_write_raw(
     state: &[u64],
     pages: &[u64],

@@ -11,8 +11,8 @@
 //!   text whose numbers a spreadsheet takes for text.
 //! * [`run_raw`], [`sheet_read_raw`] and [`sheet_write_raw`] are the libraries'
 //!   functions as they are, on plain numbers.
-//! * [`trace`] says what a completed instruction loaded and stored, to be
-//!   shown to a person.
+//! * [`trace`] says what an instruction loaded and stored, to be shown to a
+//!   person.
 //!
 //! # A switch of shadow stacks
 //!

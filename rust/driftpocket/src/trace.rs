@@ -1,10 +1,11 @@
-//! What a completed instruction loaded and stored, to be shown to a person.
+//! What an instruction loaded and stored, to be shown to a person.
 //!
 //! This judges nothing. Whether an instruction completes, faults or is refused
-//! is the library's word alone; of one that did complete, [`of`] lists the
-//! loads and stores in the order of its steps. [`accounts_for`] holds such a
-//! list to the bytes that the library left.
+//! is the library's word alone: [`of`] asks it, and then lists loads and stores
+//! in the order of the instruction's steps. [`accounts_for`] holds such a list
+//! to the bytes that the library left.
 
+use crate::answer::{Answer, Vector};
 use crate::instruction::{Instruction, code};
 use crate::pages::{PageList, Size};
 use crate::state::{State, Width};
@@ -67,35 +68,31 @@ impl fmt::Display for Access {
     }
 }
 
-/// The loads and stores of an instruction that the library completed, from the
-/// state and the pages before it.
+/// What an instruction loads and stores from this state and these pages.
 ///
-/// Nothing comes back if the code is unknown or a loaded byte lies on no page.
-/// The library completes no such instruction. For a RET that ended in #CP the
-/// two loads come back whose values differ. What comes back for others that it
-/// did not complete means nothing.
+/// The library is asked first, on copies. If it completes the instruction, all
+/// of its loads and stores come back. If it does not, nothing was stored, and no
+/// store comes back; a #CP comes with what it was found in, which are the two
+/// return addresses of RET and the token of RSTORSSP, and any other end with
+/// nothing at all.
+///
+/// There is no list if the library completes an instruction that this crate does
+/// not know, or one that loads a byte on no page. It is of another version then.
 pub fn of(instruction: &Instruction, state: &State, pages: &PageList) -> Option<Vec<Access>> {
-    let mut list = List {
+    let list = List {
         state,
         pages,
         accesses: Vec::new(),
     };
-    match instruction.code {
-        code::INCSSPD => list.incssp(Size::Four, instruction.b)?,
-        code::INCSSPQ => list.incssp(Size::Eight, instruction.b)?,
-        code::RSTORSSP => list.rstorssp(instruction.a)?,
-        code::SAVEPREVSSP => list.saveprevssp()?,
-        code::WRSSD => list.store(Stack::Shadow, Size::Four, instruction.a, instruction.b),
-        code::WRSSQ => list.store(Stack::Shadow, Size::Eight, instruction.a, instruction.b),
-        code::CALL_RELATIVE | code::CALL_ABSOLUTE => {
-            list.call(state.next(instruction.length), instruction.leaves_frame());
+    match list.answer(instruction) {
+        Answer::Completed => list.all(instruction),
+        Answer::Faulted(fault) if fault.vector == Vector::ControlProtection => {
+            let mut accesses = list.all(instruction)?;
+            accesses.retain(|access| access.action == Action::Load);
+            Some(accesses)
         }
-        code::RET | code::RET_COUNT => list.ret()?,
-        code::WRUSSD => list.store(Stack::UserShadow, Size::Four, instruction.a, instruction.b),
-        code::WRUSSQ => list.store(Stack::UserShadow, Size::Eight, instruction.a, instruction.b),
-        _ => return None,
+        _ => Some(Vec::new()),
     }
-    Some(list.accesses)
 }
 
 /// Whether a list of accesses tells all that happened to the bytes: each load
@@ -139,6 +136,34 @@ struct List<'run> {
 }
 
 impl List<'_> {
+    /// What the library answers to the instruction, on copies.
+    fn answer(&self, instruction: &Instruction) -> Answer {
+        let (mut state, mut pages) = (*self.state, self.pages.clone());
+        let one = std::slice::from_ref(instruction);
+        crate::run(&mut state, &mut pages, one).answer
+    }
+
+    /// The loads and stores of an instruction that makes all of them.
+    fn all(mut self, instruction: &Instruction) -> Option<Vec<Access>> {
+        let Instruction { length, a, b, .. } = *instruction;
+        match instruction.code {
+            code::INCSSPD => self.incssp(Size::Four, b)?,
+            code::INCSSPQ => self.incssp(Size::Eight, b)?,
+            code::RSTORSSP => self.rstorssp(a)?,
+            code::SAVEPREVSSP => self.saveprevssp()?,
+            code::WRSSD => self.store(Stack::Shadow, Size::Four, a, b),
+            code::WRSSQ => self.store(Stack::Shadow, Size::Eight, a, b),
+            code::CALL_RELATIVE | code::CALL_ABSOLUTE => {
+                self.call(self.state.next(length), instruction.leaves_frame());
+            }
+            code::RET | code::RET_COUNT => self.ret()?,
+            code::WRUSSD => self.store(Stack::UserShadow, Size::Four, a, b),
+            code::WRUSSQ => self.store(Stack::UserShadow, Size::Eight, a, b),
+            _ => return None,
+        }
+        Some(self.accesses)
+    }
+
     /// INCSSP: the first element and, if any is dropped, the last of them.
     fn incssp(&mut self, size: Size, count: u64) -> Option<()> {
         let range = count % 256;
@@ -347,7 +372,8 @@ mod tests {
         let narrow = texts(call, &State { mode: 1, ..off }, &pages());
         assert_eq!(narrow, ["store 0x400005, 4 bytes, to ordinary 0x500c"]);
         let write = Instruction::wrssd(6, 0x2ff4, 0x1_0000_0007);
-        let written = texts(write, &enabled, &pages());
+        let permitted = State { ucet: 3, ..enabled };
+        let written = texts(write, &permitted, &pages());
         assert_eq!(written, ["store 0x7, 4 bytes, to shadow 0x2ff4"]);
     }
 
@@ -403,13 +429,52 @@ mod tests {
     }
 
     #[test]
-    fn what_cannot_have_completed_has_no_list() {
-        let unknown = Instruction::from_words([13, 1, 0, 0]);
-        assert_eq!(of(&unknown, &state(2, 0x1ff0), &pages()), None);
-        let off_the_pages = Instruction::incsspq(5, 0);
-        assert_eq!(of(&off_the_pages, &state(2, 0x3000), &pages()), None);
-        let ret = Instruction::ret(1);
-        assert_eq!(of(&ret, &state(2, 0x3000), &pages()), None);
+    fn a_control_protection_fault_comes_with_its_loads() {
+        let mut pages = pages();
+        pages.write(0x2ff0, Size::Eight, 0x2ffb).unwrap();
+        let restore = texts(Instruction::rstorssp(5, 0x2ff0), &state(2, 0x1ff0), &pages);
+        assert_eq!(restore, ["load 0x2ffb, 8 bytes, from shadow 0x2ff0"]);
+        pages.write(0x5010, Size::Eight, 0x41_4141).unwrap();
+        let ret = texts(Instruction::ret(1), &state(2, 0x1ff0), &pages);
+        assert_eq!(
+            ret,
+            [
+                "load 0x414141, 8 bytes, from ordinary 0x5010",
+                "load 0x0, 8 bytes, from shadow 0x1ff0"
+            ]
+        );
+    }
+
+    #[test]
+    fn what_did_not_complete_stored_nothing() {
+        let kernel = State {
+            cpl: 0,
+            ..state(2, 0x1ff0)
+        };
+        let user = |ssp| State {
+            ucet: 3,
+            ..state(2, ssp)
+        };
+        for (instruction, state) in [
+            (Instruction::incsspq(5, 0), user(0x3000)),
+            (Instruction::incsspd(5, 2), user(0x2ffc)),
+            (Instruction::rstorssp(5, 0x2ff4), user(0x1ff0)),
+            (Instruction::saveprevssp(4), user(0x1ff0)),
+            (Instruction::wrssd(6, 0x2ff4, 7), state(2, 0x1ff0)),
+            (Instruction::wrssq(7, 0x2ff4, 7), user(0x1ff0)),
+            (Instruction::call_relative(5, 0x10), user(0x1004)),
+            (Instruction::call_absolute(5, 1 << 47), user(0x1ff0)),
+            (Instruction::ret(1), user(0x3000)),
+            (Instruction::ret_count(3, 8), user(1 << 47)),
+            (Instruction::wrussd(6, 0x2ff4, 7), user(0x1ff0)),
+            (Instruction::wrussq(7, 0x2ff4, 7), kernel),
+            (Instruction::from_words([13, 1, 0, 0]), user(0x1ff0)),
+            (Instruction::wrssq(16, 0x2ff0, 7), user(0x1ff0)),
+            (Instruction::wrssq(7, 0x2ff0, 7), user(0x1ff2)),
+        ] {
+            let nothing = of(&instruction, &state, &pages());
+            assert_eq!(nothing, Some(Vec::new()), "{instruction}");
+        }
     }
 
     #[test]

@@ -1,11 +1,11 @@
 //! What is listed of an instruction accounts for every byte that the library
-//! changed, on runs that look random.
+//! changed, and lists no store where it changed none, on runs that look random.
 
 mod common;
 
 use common::{pages, user};
 use driftpocket::trace::{self, Access, Action, Stack};
-use driftpocket::{Instruction, Kind, PageList, Size, State, run};
+use driftpocket::{Answer, Instruction, Kind, PageList, Size, State, Vector, run};
 
 /// Numbers that look random.
 struct Dice(u64);
@@ -96,35 +96,79 @@ impl Dice {
     }
 }
 
-#[test]
-fn every_completed_instruction_is_accounted_for() {
+/// One instruction that was tried.
+struct Tried {
+    instruction: Instruction,
+    /// The answer to it.
+    answer: Answer,
+    /// What is listed of it.
+    accesses: Vec<Access>,
+}
+
+/// Tries many instructions. Each list must account for the bytes after it.
+fn try_many(mut look: impl FnMut(&Tried)) {
     let mut dice = Dice(0x9e37_79b9_7f4a_7c15);
-    let mut completed = [0; 13];
-    let mut called = 0;
     for _ in 0..3000 {
         let mut state = dice.state();
         let mut pages = dice.pages(state.mode);
         for _ in 0..8 {
             let instruction = dice.instruction(state.mode == 1);
             let (opening, before) = (state, pages.clone());
-            let outcome = run(&mut state, &mut pages, &[instruction]);
-            if outcome.count == 0 {
-                assert_eq!((state, &pages), (opening, &before));
-                continue;
-            }
+            let answer = run(&mut state, &mut pages, &[instruction]).answer;
             let accesses = trace::of(&instruction, &opening, &before).unwrap();
             assert!(
                 trace::accounts_for(&before, &pages, &accesses),
                 "{instruction} from {opening:?}: {accesses:?}"
             );
-            completed[instruction.code as usize] += 1;
-            called += u64::from(is_compared(&accesses));
+            look(&Tried {
+                instruction,
+                answer,
+                accesses,
+            });
         }
     }
+}
+
+#[test]
+fn every_completed_instruction_is_accounted_for() {
+    let mut completed = [0; 13];
+    let mut called = 0;
+    try_many(|tried| {
+        if tried.answer.is_completed() {
+            completed[tried.instruction.code as usize] += 1;
+            called += u64::from(is_compared(&tried.accesses));
+        }
+    });
     for (code, count) in completed.iter().enumerate().skip(1) {
         assert!(*count > 20, "code {code} completed {count} times");
     }
     assert!(called > 100, "{called} returns to where a call came from");
+}
+
+#[test]
+fn an_instruction_that_faults_shows_no_store() {
+    let mut faulted = [0; 13];
+    let mut loads = [0; 13];
+    try_many(|tried| {
+        let Answer::Faulted(fault) = tried.answer else {
+            return;
+        };
+        let code = tried.instruction.code as usize;
+        let is_load = |access: &Access| access.action == Action::Load;
+        assert!(tried.accesses.iter().all(is_load), "{}", tried.instruction);
+        let wanted = match (fault.vector, code) {
+            (Vector::ControlProtection, 3) => 1,
+            (Vector::ControlProtection, _) => 2,
+            _ => 0,
+        };
+        assert_eq!(tried.accesses.len(), wanted, "{}", tried.instruction);
+        faulted[code] += 1;
+        loads[code] += wanted;
+    });
+    for (code, count) in faulted.iter().enumerate().skip(1) {
+        assert!(*count > 20, "code {code} faulted {count} times");
+    }
+    assert!([3, 9, 10].iter().all(|&code| loads[code] > 20), "{loads:?}");
 }
 
 /// Whether these are the loads of a RET that was compared, and went to where

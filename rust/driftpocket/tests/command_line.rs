@@ -53,24 +53,6 @@ fn told(output: &Output) -> String {
 }
 
 #[test]
-fn the_worked_cases() {
-    let output = replay(&["--worked"]);
-    assert_eq!(output.status.code(), Some(0));
-    assert!(output.stderr.is_empty());
-    let text = shown(&output);
-    let first = (1..=19).map(|number| format!("P{number}"));
-    let second = (1..=17).map(|number| format!("R{number}"));
-    for name in first.chain(second) {
-        let title = |line: &str| {
-            line.strip_prefix(&name)
-                .is_some_and(|rest| rest.starts_with(['.', ',']))
-        };
-        assert!(text.lines().any(title), "{name}");
-    }
-    assert!(text.ends_with("51 runs replayed; 51 of them agree with the run as a whole\n"));
-}
-
-#[test]
 fn it_says_what_it_does() {
     let output = replay(&["--help"]);
     assert_eq!(output.status.code(), Some(0));
@@ -83,7 +65,7 @@ fn other_arguments_are_not_understood() {
         &["--sheet"],
         &["--help", "--help"],
         &[""],
-        &[FIRST, FIRST],
+        &[FIRST, ""],
         &["--restore", FIRST, FIRST],
     ];
     for arguments in cases {
@@ -109,6 +91,23 @@ fn a_sheet_from_a_file_and_from_standard_input() {
         let wanted = text.replacen(FIRST, "standard input", 1);
         assert_eq!(shown(&input), wanted);
     }
+}
+
+#[test]
+fn several_sheets_and_the_worst_status() {
+    let faulting = "sheets/worked/p02.sheet";
+    let [first, second] = [FIRST, faulting].map(|name| shown(&replay(&[name])));
+    let twice = replay(&[FIRST, FIRST]);
+    assert_eq!(twice.status.code(), Some(0));
+    assert_eq!(shown(&twice), format!("{first}\n{first}"));
+    let output = replay(&[faulting, FIRST]);
+    assert_eq!(output.status.code(), Some(1));
+    assert_eq!(shown(&output), format!("{second}\n{first}"));
+    let output = replay(&[FIRST, SAVED, faulting]);
+    assert_eq!(output.status.code(), Some(1));
+    assert_eq!(shown(&output), format!("{first}\n\n{second}"));
+    let start = format!("replay: {SAVED}, line 1: refusal 9: ");
+    assert!(told(&output).starts_with(&start), "{}", told(&output));
 }
 
 #[test]

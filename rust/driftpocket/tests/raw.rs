@@ -46,19 +46,33 @@ impl Input {
         )
     }
 
-    /// Makes sure that it is sent back with this number before any step.
+    /// Makes sure that it is sent back with this number before any step, also
+    /// where there is no room to report it.
     fn is_refused(&self, number: u64) {
         let mut after = self.clone();
         assert_eq!(after.run(), number);
         let mut wanted = self.clone();
         wanted.report[..REPORT_WORDS].copy_from_slice(&[0, number, 0, 0, 0]);
         assert_eq!(after, wanted, "refusal {number}");
+        self.is_unreported(number);
+    }
+
+    /// Makes sure that with a report that is too short this number comes, and
+    /// nothing is touched.
+    fn is_unreported(&self, number: u64) {
+        for room in 0..REPORT_WORDS {
+            let mut short = self.clone();
+            short.report.truncate(room);
+            let before = short.clone();
+            assert_eq!(short.run(), number, "room for {room} words");
+            assert_eq!(short, before, "refusal {number}, room for {room} words");
+        }
     }
 }
 
 #[test]
 fn nothing_at_all() {
-    assert_eq!(run_raw(&mut [], &[], &mut [], &[], &mut []), 8);
+    assert_eq!(run_raw(&mut [], &[], &mut [], &[], &mut []), 5);
     let mut report = [7; REPORT_WORDS];
     assert_eq!(run_raw(&mut [], &[], &mut [], &[], &mut report), 5);
     assert_eq!(report, [0, 5, 0, 0, 0]);
@@ -70,13 +84,17 @@ fn nothing_at_all() {
 
 #[test]
 fn a_short_report_stops_everything() {
-    for room in 0..REPORT_WORDS {
-        let mut input = Input::good();
-        input.report.truncate(room);
-        let before = input.clone();
-        assert_eq!(input.run(), 8);
-        assert_eq!(input, before);
-    }
+    let mut input = Input::good();
+    input.is_unreported(8);
+    // Nothing is run, so neither form nor fault of an instruction is met.
+    input.words[4] = 99;
+    input.is_unreported(8);
+    input.words[1] = 16;
+    input.is_unreported(8);
+    input.words = Instruction::rstorssp(5, 0x2ff4).to_words().to_vec();
+    input.is_unreported(8);
+    input.words.clear();
+    input.is_unreported(8);
 }
 
 #[test]
@@ -111,8 +129,6 @@ fn refusals_come_in_their_order() {
     input.is_refused(2);
     input.bytes.pop();
     input.is_refused(1);
-    input.report.truncate(4);
-    assert_eq!(input.run(), 8);
 }
 
 #[test]

@@ -19,15 +19,6 @@ pub enum Width {
 }
 
 impl Width {
-    /// The width that is written as the number 4 or 8.
-    pub fn from_number(number: u64) -> Option<Width> {
-        match number {
-            4 => Some(Width::Four),
-            8 => Some(Width::Eight),
-            _ => None,
-        }
-    }
-
     /// The number of different addresses.
     pub fn modulus(self) -> i128 {
         match self {
@@ -70,15 +61,6 @@ pub fn is_canonical(address: u64) -> bool {
 #[cfg(test)]
 mod tests {
     use super::*;
-
-    #[test]
-    fn widths_have_two_names() {
-        assert_eq!(Width::from_number(4), Some(Width::Four));
-        assert_eq!(Width::from_number(8), Some(Width::Eight));
-        for other in [0, 1, 3, 5, 7, 9, 0x44, u64::MAX] {
-            assert_eq!(Width::from_number(other), None);
-        }
-    }
 
     #[test]
     fn numbers_below_the_modulus_are_addresses() {

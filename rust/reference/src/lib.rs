@@ -12,17 +12,15 @@
 //!
 //! * [`address`]: exact sums, their reduction, canonical addresses.
 //! * [`pages`]: reading a page list, the refusals 1 to 4, finding a byte.
-//! * [`memory`]: loads and stores of 4 or 8 bytes on lent pages.
-//! * [`transaction`]: several of them that take effect together or not at all.
+//! * [`memory`]: lent pages, and what an access of 4 or 8 bytes reaches there.
+//! * [`transaction`]: loads, and stores that take effect together or not at all.
 //! * [`processor`]: the ten fields of a state, refusal 5, what follows from it.
 //! * [`fault`]: why an operation can't be done, and what is reported of it.
 //! * [`operations`]: reading an instruction, refusal 6, the operations.
 //! * [`runs`]: whole runs, all refusals in their order, any input whatever.
 //! * [`sheet`]: run sheets read and written, refusals 8 and 9.
-//! * [`script`]: scripts of commands, from bytes in to bytes out.
-//! * [`dice`]: numbers that look random.
-//! * [`random`]: memory scripts made by a seeded generator.
-//! * [`random_operations`]: the same with states and operations.
+//! * [`outcome`]: what comes of a sheet, as a text that can be run again.
+//! * [`dice`]: numbers that look random, for programs that compare.
 
 #![deny(missing_docs)]
 #![forbid(unsafe_code)]
@@ -32,11 +30,9 @@ pub mod dice;
 pub mod fault;
 pub mod memory;
 pub mod operations;
+pub mod outcome;
 pub mod pages;
 pub mod processor;
-pub mod random;
-pub mod random_operations;
 pub mod runs;
-pub mod script;
 pub mod sheet;
 pub mod transaction;

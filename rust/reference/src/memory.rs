@@ -1,4 +1,4 @@
-//! Loads and stores on lent pages.
+//! Lent pages: what can be reached there, loads, and the bytes stored since.
 
 use crate::address::{Width, is_canonical};
 use crate::pages::{Atlas, Kind, Refusal, Spot};
@@ -14,15 +14,6 @@ pub enum Size {
 }
 
 impl Size {
-    /// The size that is written as the number 4 or 8.
-    pub fn from_number(number: u64) -> Option<Size> {
-        match number {
-            4 => Some(Size::Four),
-            8 => Some(Size::Eight),
-            _ => None,
-        }
-    }
-
     /// The number of bytes.
     pub fn bytes(self) -> i128 {
         match self {
@@ -101,23 +92,6 @@ impl Memory {
         Ok(highest_first.fold(0, |above, place| above << 8 | u64::from(self.byte(place))))
     }
 
-    /// Puts the low bytes of a number there, its lowest byte first.
-    pub fn store(&mut self, access: &Access, value: u64) -> Result<(), Obstacle> {
-        let places = self.places(access)?;
-        self.put(places.into_iter().zip(value.to_le_bytes()));
-        Ok(())
-    }
-
-    /// The lent bytes that now hold something else: place and byte, in the
-    /// order of the places.
-    pub fn changes(&self) -> Vec<(u64, u8)> {
-        self.stored
-            .iter()
-            .map(|(&place, &byte)| (place, byte))
-            .filter(|&(place, byte)| byte != self.lent_byte(place))
-            .collect()
-    }
-
     /// All lent bytes in their order, as they are now.
     pub fn into_bytes(self) -> Vec<u8> {
         let mut bytes = self.lent;
@@ -125,18 +99,6 @@ impl Memory {
             bytes[index(place)] = byte;
         }
         bytes
-    }
-
-    /// Sets the eight bytes from an address up, its lowest byte first, on pages
-    /// of any kind. Addresses start again at 2^64. If one of them is on no
-    /// listed page, the first such comes back and nothing is set.
-    pub fn set_word(&mut self, address: u64, value: u64) -> Result<(), u64> {
-        let places = (0..8)
-            .map(|step| Width::Eight.plus(address, step))
-            .map(|byte| self.find(byte).map(|spot| spot.place).ok_or(byte))
-            .collect::<Result<Vec<u64>, u64>>()?;
-        self.put(places.into_iter().zip(value.to_le_bytes()));
-        Ok(())
     }
 
     /// Puts bytes at places, both taken from a store that can be done.
@@ -148,13 +110,8 @@ impl Memory {
     pub(crate) fn byte(&self, place: u64) -> u8 {
         match self.stored.get(&place) {
             Some(&byte) => byte,
-            None => self.lent_byte(place),
+            None => self.lent[index(place)],
         }
-    }
-
-    /// The byte at a place, as it was lent.
-    fn lent_byte(&self, place: u64) -> u8 {
-        self.lent[index(place)]
     }
 
     /// The places of all bytes of an access, or what stands against it.
@@ -239,82 +196,21 @@ mod tests {
     }
 
     #[test]
-    fn a_store_lands_in_the_order_of_the_list() {
-        let mut down = memory(&[0x2001, 0x1001]);
-        down.store(&eight(0x1ffe), 0x8877_6655_4433_2211).unwrap();
-        assert_eq!(
-            down.changes(),
-            [
-                (0, 0x33),
-                (1, 0x44),
-                (2, 0x55),
-                (3, 0x66),
-                (4, 0x77),
-                (5, 0x88),
-                (0x1ffe, 0x11),
-                (0x1fff, 0x22)
-            ]
-        );
-        assert_eq!(down.load(&eight(0x1ffe)), Ok(0x8877_6655_4433_2211));
-    }
-
-    #[test]
-    fn a_byte_stored_as_it_was_is_no_change() {
-        let mut memory = memory(&[0x1001]);
-        memory.store(&eight(0x1000), 0x0706_0504_0302_0199).unwrap();
-        assert_eq!(memory.changes(), [(0, 0x99)]);
-        memory.store(&eight(0x1000), 0x0706_0504_0302_0100).unwrap();
-        assert_eq!(memory.changes(), []);
-    }
-
-    #[test]
     fn the_first_bad_byte_is_named() {
-        let mut memory = memory(&[0x1001, 0x2003]);
-        let before = memory.clone();
-        assert_eq!(memory.store(&eight(0xffd), 1), Err(Obstacle::NoPage(0xffd)));
-        assert_eq!(
-            memory.store(&eight(0x1ff9), 1),
-            Err(Obstacle::WrongKind(0x2000))
-        );
-        assert_eq!(
-            memory.store(&eight(0x1ffc), 1),
-            Err(Obstacle::WrongKind(0x2000))
-        );
-        assert_eq!(
-            memory.store(&eight(0x2ffe), 1),
-            Err(Obstacle::WrongKind(0x2ffe))
-        );
-        let ordinary = Access {
-            kind: Kind::Ordinary,
-            ..eight(0x2ffe)
-        };
-        assert_eq!(memory.store(&ordinary, 1), Err(Obstacle::NoPage(0x3000)));
-        assert_eq!(memory, before);
-    }
-
-    #[test]
-    fn a_word_goes_on_pages_of_any_kind() {
-        let mut memory = memory(&[0x1001, 0x2003, 0xffff_ffff_ffff_f002, 3]);
-        let word = 0x8877_6655_4433_2211;
-        assert_eq!(memory.set_word(0xffff_ffff_ffff_fffd, word), Ok(()));
-        let mut bytes = memory.changes();
-        bytes.sort_by_key(|&(_, byte)| byte);
-        let places: Vec<u64> = bytes.into_iter().map(|(place, _)| place).collect();
-        assert_eq!(
-            places,
-            [
-                0x2ffd, 0x2ffe, 0x2fff, 0x3000, 0x3001, 0x3002, 0x3003, 0x3004
-            ]
-        );
-        assert_eq!(memory.set_word(0x1ffc, word), Ok(()));
-        let before = memory.clone();
-        assert_eq!(memory.set_word(0x2ffc, 0), Err(0x3000));
-        assert_eq!(
-            memory.set_word(0xffff_ffff_ffff_effc, 0),
-            Err(0xffff_ffff_ffff_effc)
-        );
-        assert_eq!(memory.set_word(0x8000, 0), Err(0x8000));
-        assert_eq!(memory, before);
+        let memory = memory(&[0x1001, 0x2003]);
+        for (kind, first, wanted) in [
+            (Kind::UserShadow, 0xffd, Obstacle::NoPage(0xffd)),
+            (Kind::UserShadow, 0x1ff9, Obstacle::WrongKind(0x2000)),
+            (Kind::UserShadow, 0x1ffc, Obstacle::WrongKind(0x2000)),
+            (Kind::UserShadow, 0x2ffe, Obstacle::WrongKind(0x2ffe)),
+            (Kind::Ordinary, 0x2ffe, Obstacle::NoPage(0x3000)),
+        ] {
+            let access = Access {
+                kind,
+                ..eight(first)
+            };
+            assert_eq!(memory.load(&access), Err(wanted));
+        }
     }
 
     #[test]

@@ -120,19 +120,6 @@ pub fn run_with(input: &Input, search: &Search) -> Report {
     }
 }
 
-/// State and bytes after so many single operations, if so many complete. After
-/// none they are as they were handed in, whatever that was.
-pub fn after(input: &Input, operations: u64) -> Option<Moment> {
-    if operations == 0 {
-        return Some(input.opening());
-    }
-    let mut stage = Stage::admit(input).ok()?;
-    let wanted = usize::try_from(operations).ok()?;
-    let listed = instructions(input.words).take(wanted);
-    let (count, _) = stage.play(listed, &by_the_rules);
-    (count == operations).then(|| stage.close())
-}
-
 impl Input<'_> {
     /// State and bytes as they were handed in.
     fn opening(&self) -> Moment {

@@ -5,7 +5,7 @@
 //! the same is the same. A reader splits the text, understands each line by
 //! itself, and asks of each two neighbours whether one may follow the other.
 
-mod line;
+pub(crate) mod line;
 
 use crate::pages::{Atlas, PAGE_BYTES};
 use crate::processor::FIELDS;
@@ -17,10 +17,10 @@ use std::collections::BTreeMap;
 const VERSION: u64 = 1;
 
 /// The refusal of a result that is longer than its buffer.
-const NO_ROOM: u64 = 8;
+pub(crate) const NO_ROOM: u64 = 8;
 
 /// The refusal of a text that is no sheet.
-const NO_SHEET: u64 = 9;
+pub(crate) const NO_SHEET: u64 = 9;
 
 /// The words that the report of a read has.
 const READ_REPORT: usize = 5;
@@ -33,24 +33,25 @@ const EIGHT: usize = 8;
 
 /// What a run means, whatever the order of its pages.
 #[derive(Clone, Debug, PartialEq, Eq)]
-struct Sheet {
+pub(crate) struct Sheet {
     /// The fields of the state.
-    state: [u64; FIELDS],
+    pub(crate) state: [u64; FIELDS],
     /// The entries of the page list by page address.
     pages: BTreeMap<u64, u64>,
     /// The aligned numbers on these pages that are not 0, by address.
     contents: BTreeMap<u64, u64>,
     /// The instructions.
-    list: Vec<[u64; WORDS]>,
+    pub(crate) list: Vec<[u64; WORDS]>,
 }
 
 /// Reads a sheet into lent buffers.
 ///
 /// The report gets the refusal or 0, the number of the line that makes the text
 /// no sheet or 0, and the numbers of page entries, bytes and words of the result:
-/// also if it is longer than a buffer, but 0 after any other refusal. With fewer
-/// than five words of report the answer is 8, and nothing is done. A refusal
-/// touches the report only; past a result every buffer stays as it is.
+/// also if it is longer than a buffer, but 0 after any other refusal. A refusal
+/// touches the report only, and a report of fewer than five words is not touched
+/// either: it is too short, refusal 8, if nothing else is wrong. Past a result
+/// every buffer stays as it is.
 pub fn read_sheet(
     text: &[u8],
     state: &mut [u64],
@@ -59,9 +60,6 @@ pub fn read_sheet(
     words: &mut [u64],
     report: &mut [u64],
 ) -> u64 {
-    let Some(report) = report.first_chunk_mut::<READ_REPORT>() else {
-        return NO_ROOM;
-    };
     let sheet = match Sheet::read(text) {
         Ok(sheet) => sheet,
         Err(line) => return say(report, [NO_SHEET, line, 0, 0, 0]),
@@ -71,7 +69,8 @@ pub fn read_sheet(
     }
     let (listed, held, listing) = (sheet.entries(), sheet.bytes(), sheet.list.as_flattened());
     let counts = [listed.len(), held.len(), listing.len()];
-    let fits = state.len() >= FIELDS
+    let fits = report.len() >= READ_REPORT
+        && state.len() >= FIELDS
         && pages.len() >= listed.len()
         && bytes.len() >= held.len()
         && words.len() >= listing.len();
@@ -89,9 +88,10 @@ pub fn read_sheet(
 /// Writes a run as a sheet into a lent buffer.
 ///
 /// The report gets the refusal or 0, and the length of the text: also if it is
-/// longer than the buffer, but 0 after any other refusal. With fewer than two
-/// words of report the answer is 8, and nothing is done. A refusal touches the
-/// report only; past the text the buffer stays as it is.
+/// longer than the buffer, but 0 after any other refusal. A refusal touches the
+/// report only, and a report of fewer than two words is not touched either: it is
+/// too short, refusal 8, if nothing else is wrong. Past the text the buffer stays
+/// as it is.
 pub fn write_sheet(
     state: &[u64],
     pages: &[u64],
@@ -100,24 +100,24 @@ pub fn write_sheet(
     text: &mut [u8],
     report: &mut [u64],
 ) -> u64 {
-    let Some(report) = report.first_chunk_mut::<WRITE_REPORT>() else {
-        return NO_ROOM;
-    };
     let printed = match Sheet::gather(state, pages, bytes, words) {
         Ok(sheet) => sheet.print(),
         Err(refusal) => return say(report, [refusal, 0]),
     };
     let length = printed.len() as u64;
-    if printed.len() > text.len() {
+    if report.len() < WRITE_REPORT || text.len() < printed.len() {
         return say(report, [NO_ROOM, length]);
     }
     lay(text, printed.as_bytes());
     say(report, [0, length])
 }
 
-/// Writes a report, of which the first word is also what comes back.
-fn say<const COUNT: usize>(report: &mut [u64; COUNT], words: [u64; COUNT]) -> u64 {
-    *report = words;
+/// Writes a report if there is room for it. Its first word is also what comes
+/// back.
+fn say<const COUNT: usize>(report: &mut [u64], words: [u64; COUNT]) -> u64 {
+    if let Some(report) = report.first_chunk_mut() {
+        *report = words;
+    }
     words[0]
 }
 
@@ -129,7 +129,7 @@ fn lay<T: Copy>(buffer: &mut [T], result: &[T]) {
 impl Sheet {
     /// Understands a text, or gives the number of the first line that is wrong
     /// or missing.
-    fn read(text: &[u8]) -> Result<Sheet, u64> {
+    pub(crate) fn read(text: &[u8]) -> Result<Sheet, u64> {
         let mut sheet = Sheet {
             state: [0; FIELDS],
             pages: BTreeMap::new(),
@@ -193,19 +193,19 @@ impl Sheet {
     }
 
     /// The refusals of a run that comes with a page of bytes for each entry.
-    fn admit(&self) -> Result<(), u64> {
+    pub(crate) fn admit(&self) -> Result<(), u64> {
         let lent_bytes = self.pages.len() as u64 * PAGE_BYTES;
         let words = self.list.as_flattened().len();
         admit(&self.state, &self.entries(), lent_bytes, words)
     }
 
     /// The page list, by address.
-    fn entries(&self) -> Vec<u64> {
+    pub(crate) fn entries(&self) -> Vec<u64> {
         self.pages.values().copied().collect()
     }
 
     /// The bytes of all pages in that order.
-    fn bytes(&self) -> Vec<u8> {
+    pub(crate) fn bytes(&self) -> Vec<u8> {
         let places = self.pages.keys().flat_map(|&start| places(start));
         places
             .flat_map(|place| self.contents.get(&place).unwrap_or(&0).to_le_bytes())
@@ -213,7 +213,12 @@ impl Sheet {
     }
 
     /// Takes a run from buffers, unless it is refused.
-    fn gather(state: &[u64], pages: &[u64], bytes: &[u8], words: &[u64]) -> Result<Sheet, u64> {
+    pub(crate) fn gather(
+        state: &[u64],
+        pages: &[u64],
+        bytes: &[u8],
+        words: &[u64],
+    ) -> Result<Sheet, u64> {
         admit(state, pages, bytes.len() as u64, words.len())?;
         let starts = pages.iter().map(|&entry| start(entry));
         let numbers = bytes.as_chunks::<EIGHT>().0.iter();
@@ -230,7 +235,7 @@ impl Sheet {
     }
 
     /// The text.
-    fn print(&self) -> String {
+    pub(crate) fn print(&self) -> String {
         let words = self.contents.iter();
         [Line::Sheet(VERSION), Line::State(self.state)]
             .into_iter()

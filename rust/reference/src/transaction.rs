@@ -81,9 +81,9 @@ mod tests {
     use crate::memory::Size;
     use crate::pages::Kind;
 
-    /// A memory of one user shadow page, all zero.
+    /// The upper of two user shadow pages first, all zero.
     fn memory() -> Memory {
-        Memory::new(&[0x1001], vec![0; 4096]).unwrap()
+        Memory::new(&[0x2001, 0x1001], vec![0; 8192]).unwrap()
     }
 
     fn access(size: Size, first: u64) -> Access {
@@ -100,8 +100,8 @@ mod tests {
     fn stores_are_seen_at_once_inside_and_later_outside() {
         let mut memory = memory();
         let mut transaction = Transaction::begin(&mut memory, &by_the_rules);
-        let eight = access(Size::Eight, 0x1008);
-        let four = access(Size::Four, 0x1006);
+        let eight = access(Size::Eight, 0x1ffc);
+        let four = access(Size::Four, 0x1ffa);
         transaction.store(&eight, 0x8877_6655_4433_2211).unwrap();
         transaction.store(&four, 0xffff_ffff_ddcc_bbaa).unwrap();
         assert_eq!(transaction.load(&eight), Ok(0x8877_6655_4433_ddcc));
@@ -109,7 +109,10 @@ mod tests {
         assert_eq!(transaction.memory.load(&eight), Ok(0));
         transaction.commit();
         assert_eq!(memory.load(&eight), Ok(0x8877_6655_4433_ddcc));
-        assert_eq!(memory.changes().len(), 10);
+        let mut bytes = vec![0; 8192];
+        bytes[..4].copy_from_slice(&[0x55, 0x66, 0x77, 0x88]);
+        bytes[0x1ffa..].copy_from_slice(&[0xaa, 0xbb, 0xcc, 0xdd, 0x33, 0x44]);
+        assert_eq!(memory.into_bytes(), bytes);
     }
 
     #[test]
@@ -119,8 +122,8 @@ mod tests {
         let mut transaction = Transaction::begin(&mut memory, &by_the_rules);
         transaction.store(&access(Size::Eight, 0x1ff8), 1).unwrap();
         assert_eq!(
-            transaction.store(&access(Size::Eight, 0x1ffc), 1),
-            Err(Obstacle::NoPage(0x2000))
+            transaction.store(&access(Size::Eight, 0x2ffc), 1),
+            Err(Obstacle::NoPage(0x3000))
         );
         drop(transaction);
         assert_eq!(memory, before);

@@ -5,7 +5,7 @@ use crate::case::{Case, PAGE};
 use crate::damage::{self, Spoiler};
 use crate::sheets::lines::{line, lines_of, text};
 use crate::sheets::rows::{ENOUGH, Row, small_lines, small_run};
-use crate::sheets::{Question, Rooms};
+use crate::sheets::{Question, READ_REPORT, Rooms, Sighting, WRITE_REPORT};
 use driftpocket_reference::address::{ABOVE_HOLE, HOLE, LAST_PAGE};
 use std::collections::BTreeSet;
 
@@ -17,7 +17,9 @@ pub fn rows() -> Vec<Row> {
         limits(),
         page_order(),
         short_rooms(),
-        short_reports(),
+        long_reports(),
+        unreported_reads(),
+        unreported_writes(),
         writes(),
         refused_writes(),
     ]
@@ -243,39 +245,88 @@ fn short_rooms() -> Vec<Row> {
     rows
 }
 
-/// Reports that are too short, or longer than need be.
-fn short_reports() -> Vec<Row> {
-    let mut rows = Vec::new();
+/// Reports that are longer than need be.
+fn long_reports() -> Vec<Row> {
     let sheet = text(&small_lines());
-    for report in 0..=7 {
-        let rooms = Rooms { report, ..ENOUGH };
+    let read = |report| {
         let name = format!("a read with {report} words of report");
-        if report < 5 {
-            for text in [sheet.clone(), Vec::new()] {
-                rows.push(untouched(&name, Question::Read { text, rooms }));
-            }
-        } else {
-            rows.push(Row::read(name, sheet.clone(), rooms, &small_run()));
-        }
+        let rooms = Rooms { report, ..ENOUGH };
+        Row::read(name, sheet.clone(), rooms, &small_run())
+    };
+    let write = |report| {
+        let name = format!("a write with {report} words of report");
         let mut case = small_run();
         case.room = report;
-        let room = sheet.len();
-        let name = format!("a write with {report} words of report");
-        rows.push(if report < 2 {
-            untouched(&name, Question::Write { case, room })
-        } else {
-            Row::written(name, case, room, &sheet)
-        });
+        Row::written(name, case, sheet.len(), &sheet)
+    };
+    let reads = (READ_REPORT..=7).map(read);
+    reads.chain((WRITE_REPORT..=7).map(write)).collect()
+}
+
+/// Texts with what a read gives where its report is too short: a refusal that is
+/// due, or else 8.
+fn unreported_texts() -> Vec<(String, Vec<u8>, u64)> {
+    let sheet = text(&small_lines());
+    let cut = sheet[..sheet.len() - 1].to_vec();
+    let mut texts = vec![
+        ("the small sheet".to_string(), sheet, 8),
+        ("no text".to_string(), Vec::new(), 9),
+        ("the last line unended".to_string(), cut, 9),
+    ];
+    for (name, case, number) in alone().into_iter().filter(|(_, case, _)| is_text(case)) {
+        let mut lines = lines_of(&case);
+        texts.push((name.clone(), text(&lines), number));
+        lines.push("do".into());
+        let name = format!("{name}, and the last line is wrong");
+        texts.push((name, text(&lines), 9));
+    }
+    texts
+}
+
+/// Such reads, with room for their results and without.
+fn unreported_reads() -> Vec<Row> {
+    let mut rows = Vec::new();
+    for (name, text, number) in unreported_texts() {
+        for report in 0..READ_REPORT {
+            for rooms in [ENOUGH, Rooms::NONE] {
+                let name = format!("{name}, read with {report} words of report");
+                let rooms = Rooms { report, ..rooms };
+                let text = text.clone();
+                rows.push(untouched(name, Question::Read { text, rooms }, number));
+            }
+        }
     }
     rows
 }
 
-/// Nothing is done, and 8 comes back.
-fn untouched(name: &str, question: Question) -> Row {
-    let mut wanted = question.untouched();
-    wanted.returned = 8;
+/// The same of writes, whether there is room for the text or not.
+fn unreported_writes() -> Vec<Row> {
+    let mut all = alone();
+    all.push(("the small run".to_string(), small_run(), 8));
+    let mut rows = Vec::new();
+    for (name, case, number) in all {
+        for report in 0..WRITE_REPORT {
+            for room in [0, 1000] {
+                let name = format!("{name}, written with {report} words of report");
+                let case = Case {
+                    room: report,
+                    ..case.clone()
+                };
+                rows.push(untouched(name, Question::Write { case, room }, number));
+            }
+        }
+    }
+    rows
+}
+
+/// Nothing is done, and this number comes back.
+fn untouched(name: String, question: Question, returned: u64) -> Row {
+    let wanted = Sighting {
+        returned,
+        ..question.untouched()
+    };
     Row {
-        name: name.to_string(),
+        name,
         question,
         wanted,
     }

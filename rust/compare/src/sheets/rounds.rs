@@ -5,7 +5,7 @@ use crate::case::Case;
 use crate::rounds::located;
 use crate::sheets::drawn::{Size, any_case};
 use crate::sheets::lines::{lines_of, text};
-use crate::sheets::{FIELDS, Parts, Question, Rooms, Sighting, Tally};
+use crate::sheets::{FIELDS, Parts, Question, READ_REPORT, Rooms, Sighting, Tally, WRITE_REPORT};
 use driftpocket_reference::dice::Dice;
 use driftpocket_reference::pages::PAGE_BYTES;
 use std::ops::Range;
@@ -46,9 +46,7 @@ impl Round {
         let seen = self.write(case, sheet.len() + dice.index(9))?;
         self.write(case, 0)?;
         if seen.returned != 0 {
-            self.read(&sheet, Rooms::of(case))?;
-            self.read(&sheet, Rooms::NONE)?;
-            return Ok(());
+            return self.refused(dice, case, &sheet);
         }
         demand(seen.text() == Some(&sheet), "the text is another one")?;
         self.write_rooms(dice, case, sheet.len())?;
@@ -61,6 +59,20 @@ impl Round {
         )?;
         let again = self.write(&run.expect("it was read"), sheet.len())?;
         demand(again.bytes == sheet, "what was read is written otherwise")
+    }
+
+    /// What else is asked about a run that is refused, reports that are too short
+    /// among it. Its text may be a sheet or not.
+    fn refused(&mut self, dice: &mut Dice, case: &Case, sheet: &[u8]) -> Result<(), String> {
+        self.read(sheet, Rooms::of(case))?;
+        self.read(sheet, Rooms::NONE)?;
+        let report = dice.index(READ_REPORT);
+        let rooms = Rooms::of(case);
+        self.read(sheet, Rooms { report, ..rooms })?;
+        let mut case = case.clone();
+        case.room = dice.index(WRITE_REPORT);
+        self.write(&case, sheet.len())?;
+        Ok(())
     }
 
     /// Writes a run.

@@ -1,13 +1,12 @@
 //! Parts that are wrong on purpose, each in one thing.
 //!
 //! Most of them call the library and then spoil what it did, either after the
-//! whole run or after each single instruction. Those that are wrong about calls
-//! of the next line, about RET and about WRUSS have files of their own. So have
-//! those that look for bytes in a wrong way, which are made from the second
-//! program.
+//! whole run or after each single instruction. Those that are wrong about one
+//! operation are in a file with its name. Those that look for bytes in a wrong
+//! way, which are made from the second program, have a file too.
 
 use driftpocket::run_raw as right;
-use driftpocket_compare::answer::{CP, FAULT, GP, PF};
+use driftpocket_compare::answer::{CP, FAULT, PF};
 use driftpocket_compare::case::{FOUR_GIB, PAGE, Part, field, is_enabled};
 
 /// A whole run with something done to it afterwards.
@@ -34,12 +33,14 @@ macro_rules! wrong_step {
     };
 }
 
-mod calls_of_next;
-mod returns;
+mod call;
+mod incssp;
+mod ret;
+mod saveprevssp;
 pub mod searches;
-mod user_writes;
+mod wruss;
 
-pub use calls_of_next::ALL as CALLS_OF_NEXT;
+pub use call::ALL as CALLS;
 
 /// A single instruction that was carried out rightly.
 struct Step<'run> {
@@ -265,12 +266,45 @@ wrong_run!(
 );
 
 wrong_run!(runs_without_room, |state, pages, bytes, words, report| {
-    if report.len() < 5 {
+    let returned = right(state, pages, bytes, words, report);
+    if report.len() < 5 && returned == 8 {
         right(state, pages, bytes, words, &mut [0; 5]);
-        return 8;
     }
-    right(state, pages, bytes, words, report)
+    returned
 });
+
+wrong_run!(
+    looks_for_room_first,
+    |state, pages, bytes, words, report| {
+        if report.len() < 5 {
+            return 8;
+        }
+        right(state, pages, bytes, words, report)
+    }
+);
+
+wrong_run!(
+    looks_for_room_after_the_form,
+    |state, pages, bytes, words, report| {
+        let returned = right(state, pages, bytes, words, report);
+        let tried = try_out(state, pages, bytes, words);
+        if report.len() < 5 && tried == 6 {
+            return tried;
+        }
+        returned
+    }
+);
+
+wrong_run!(
+    writes_a_short_report,
+    |state, pages, bytes, words, report| {
+        let returned = right(state, pages, bytes, words, report);
+        if let ([_, word, ..], 1..=7) = (&mut *report, returned) {
+            *word = returned;
+        }
+        returned
+    }
+);
 
 wrong_run!(
     returns_a_bare_vector,
@@ -308,7 +342,7 @@ wrong_run!(
     tests_seven_before_five,
     |state, pages, bytes, words, report| {
         let returned = right(state, pages, bytes, words, report);
-        if returned == 5 && !words.len().is_multiple_of(4) {
+        if returned == 5 && !words.len().is_multiple_of(4) && report.len() >= 5 {
             report[1] = 7;
             return 7;
         }
@@ -352,62 +386,6 @@ wrong_run!(
     }
 );
 
-// The misreadings that the rules warn of.
-
-wrong_step!(skips_the_load_of_no_element, |step| {
-    let none = step.is_increment() && step.words[3] % 256 == 0;
-    if none && matches!(step.report[2], GP | PF) {
-        step.state[field::IP] = step.state[field::IP].wrapping_add(step.words[1]);
-        step.report = [1, 0, 0, 0, 0];
-    }
-});
-
-wrong_step!(uses_nine_bits_of_the_count, |step| {
-    if step.is_increment() && step.is_completed() && step.words[3] & 0x100 != 0 {
-        let ssp = step.state[field::SSP].wrapping_add(0x400 * step.code());
-        let limit = if step.state[field::MODE] == 2 {
-            u64::MAX
-        } else {
-            u32::MAX.into()
-        };
-        step.state[field::SSP] = ssp & limit;
-    }
-});
-
-wrong_step!(tests_the_carry_before_the_pop, |step| {
-    let carry = step.before[field::MODE] == 2 && step.before[field::FLAGS] % 2 == 1;
-    if step.code() == 4 && carry && step.report[2] == PF {
-        step.report = [0, 0, GP, 0, 0];
-    }
-});
-
-wrong_step!(leaves_the_ordinary_push, |step| {
-    if matches!(step.code(), 7 | 8) && step.report[2] == PF {
-        let mut state = step.before.clone();
-        state[field::CET] = 0;
-        right(&mut state, step.pages, step.bytes, step.words, &mut [0; 5]);
-    }
-});
-
-wrong_step!(loses_the_hole, |step| {
-    if step.code() != 4 || !step.is_completed() {
-        return;
-    }
-    let token = step.place(step.before[field::SSP]);
-    let old =
-        token.map(|place| u64::from_le_bytes(*step.old_bytes[place..].first_chunk().unwrap()));
-    let saved = old.and_then(|old| step.place((old & !7).wrapping_sub(8)));
-    if let Some(place) = saved {
-        step.bytes[place] &= !4;
-    }
-});
-
-wrong_step!(drops_one_element_fewer, |step| {
-    if step.code() == 1 && step.is_completed() && step.state[field::SSP] > 4 {
-        step.state[field::SSP] -= 4;
-    }
-});
-
 /// A wrong part with its name.
 type Named = (&'static str, Part);
 
@@ -415,9 +393,11 @@ type Named = (&'static str, Part);
 pub fn all() -> impl Iterator<Item = Named> {
     [
         COMMON,
-        CALLS_OF_NEXT,
-        returns::ALL,
-        user_writes::ALL,
+        incssp::ALL,
+        saveprevssp::ALL,
+        wruss::ALL,
+        CALLS,
+        ret::ALL,
         searches::ALL,
     ]
     .concat()
@@ -433,6 +413,12 @@ const COMMON: &[Named] = &[
     ("idles after one", idles_after_one),
     ("writes past the report", writes_past_the_report),
     ("runs without room", runs_without_room),
+    ("looks for room first", looks_for_room_first),
+    (
+        "looks for room after the form",
+        looks_for_room_after_the_form,
+    ),
+    ("writes a short report", writes_a_short_report),
     ("returns a bare vector", returns_a_bare_vector),
     ("forgets the error code", forgets_the_error_code),
     ("names the page", names_the_page),
@@ -442,15 +428,6 @@ const COMMON: &[Named] = &[
     ("counts the pages", counts_the_pages),
     ("touches the last page", touches_the_last_page),
     ("looks at permissions", looks_at_permissions),
-    ("skips the load of no element", skips_the_load_of_no_element),
-    ("uses nine bits of the count", uses_nine_bits_of_the_count),
-    (
-        "tests the carry before the pop",
-        tests_the_carry_before_the_pop,
-    ),
-    ("leaves the ordinary push", leaves_the_ordinary_push),
-    ("loses the hole", loses_the_hole),
-    ("drops one element fewer", drops_one_element_fewer),
 ];
 
 /// A run one instruction after the other that is not spoiled.

@@ -150,9 +150,6 @@ fn search_wrongly(
     report: &mut [u64],
     search: impl Fn(&Look) -> Found,
 ) -> u64 {
-    if report.len() < 5 {
-        return 8;
-    }
     let past = Cell::new((0, None));
     let input = Input {
         state,
@@ -175,10 +172,13 @@ fn search_wrongly(
         past.set((turn + 1, Some((page, found[0]))));
         Ok(found)
     });
+    let answer = Answer::of(&run.ending);
+    let Some(report) = report.first_chunk_mut() else {
+        return answer.unreported();
+    };
     state.copy_from_slice(&run.moment.state);
     bytes.copy_from_slice(&run.moment.bytes);
-    let answer = Answer::of(&run.ending);
-    report[..5].copy_from_slice(&answer.report(run.count));
+    *report = answer.report(run.count);
     answer.returned()
 }
 

@@ -24,9 +24,9 @@ macro_rules! reader {
 macro_rules! after_read {
     ($name:ident, |$text:ident, $state:ident, $pages:ident, $bytes:ident, $report:ident| $spoil:expr) => {
         reader!($name, |$text, $state, $pages, $bytes, words, report| {
-            read_sheet($text, $state, $pages, $bytes, words, report);
+            let returned = read_sheet($text, $state, $pages, $bytes, words, report);
             let Some($report) = report.first_chunk_mut::<5>() else {
-                return 8;
+                return returned;
             };
             $spoil;
             $report[0]
@@ -347,11 +347,29 @@ writer!(
     LOOKS_FOR_ROOM_BEFORE_A_WRITE,
     |state, pages, bytes, words, text, report| {
         let returned = write_sheet(state, pages, bytes, words, text, report);
-        if (1..8).contains(&returned) && text.is_empty() {
+        if (1..8).contains(&returned) && text.is_empty() && report.len() >= 2 {
             report[0] = 8;
             return 8;
         }
         returned
+    }
+);
+reader!(
+    LOOKS_FOR_THE_REPORT_FIRST,
+    |text, state, pages, bytes, words, report| {
+        if report.len() < 5 {
+            return 8;
+        }
+        read_sheet(text, state, pages, bytes, words, report)
+    }
+);
+writer!(
+    LOOKS_FOR_THE_REPORT_BEFORE_A_WRITE,
+    |state, pages, bytes, words, text, report| {
+        if report.len() < 2 {
+            return 8;
+        }
+        write_sheet(state, pages, bytes, words, text, report)
     }
 );
 writer!(TAKES_ELEVEN_FIELDS, |state,
@@ -367,7 +385,7 @@ writer!(
     TESTS_SEVEN_BEFORE_FIVE,
     |state, pages, bytes, words, text, report| {
         let returned = write_sheet(state, pages, bytes, words, text, report);
-        if returned == 5 && !words.len().is_multiple_of(4) {
+        if returned == 5 && !words.len().is_multiple_of(4) && report.len() >= 2 {
             report[0] = 7;
             return 7;
         }
@@ -424,6 +442,11 @@ pub const ALL: &[(&str, Parts)] = &[
     (
         "looks for room before a write",
         LOOKS_FOR_ROOM_BEFORE_A_WRITE,
+    ),
+    ("looks for the report first", LOOKS_FOR_THE_REPORT_FIRST),
+    (
+        "looks for the report before a write",
+        LOOKS_FOR_THE_REPORT_BEFORE_A_WRITE,
     ),
     ("takes eleven fields", TAKES_ELEVEN_FIELDS),
     ("tests seven before five", TESTS_SEVEN_BEFORE_FIVE),

@@ -49,13 +49,26 @@ impl Room {
     }
 
     /// Makes sure that a text is refused with this report, and that no other
-    /// buffer is touched.
+    /// buffer is touched; nor a report that is too short for that.
     fn is_refused(&self, text: &str, report: [u64; READ_REPORT_WORDS]) {
         let mut after = self.clone();
         assert_eq!(after.read(text), report[0], "{text}");
         let mut wanted = self.clone();
         wanted.report[..READ_REPORT_WORDS].copy_from_slice(&report);
         assert!(after == wanted, "{text}");
+        self.is_unreported(text, report[0]);
+    }
+
+    /// Makes sure that with a report that is too short this number comes, and
+    /// nothing is touched.
+    fn is_unreported(&self, text: &str, number: u64) {
+        for length in 0..READ_REPORT_WORDS {
+            let mut short = self.clone();
+            short.report.truncate(length);
+            let before = short.clone();
+            assert_eq!(short.read(text), number, "report of {length} words: {text}");
+            assert!(short == before, "report of {length} words: {text}");
+        }
     }
 }
 
@@ -104,15 +117,9 @@ fn room_that_is_one_short() {
 
 #[test]
 fn a_short_report_stops_everything() {
-    for text in [lines().concat(), String::new()] {
-        for length in 0..READ_REPORT_WORDS {
-            let mut room = Room::ample();
-            room.report.truncate(length);
-            let before = room.clone();
-            assert_eq!(room.read(&text), 8);
-            assert!(room == before);
-        }
-    }
+    Room::ample().is_unreported(&lines().concat(), 8);
+    Room::ample().is_unreported(&lines()[..2].concat(), 8);
+    Room::ample().is_unreported("", 9);
 }
 
 #[test]

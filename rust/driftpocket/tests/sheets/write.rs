@@ -50,12 +50,24 @@ impl Input {
     }
 
     /// Makes sure that it is refused with this report, and that the text is not
-    /// touched.
+    /// touched; nor a report that is too short for that.
     fn is_refused(&self, room: usize, report: [u64; WRITE_REPORT_WORDS]) {
         let (answer, text, after) = self.write(room, WRITE_REPORT_WORDS + 1);
         assert_eq!(answer, report[0]);
         assert!(text.iter().all(|byte| *byte == KEPT));
         assert_eq!(after, [report[0], report[1], KEPT_WORD]);
+        self.is_unreported(room, report[0]);
+    }
+
+    /// Makes sure that with a report that is too short this number comes, and
+    /// nothing is touched.
+    fn is_unreported(&self, room: usize, number: u64) {
+        for length in 0..WRITE_REPORT_WORDS {
+            let (answer, text, report) = self.write(room, length);
+            assert_eq!(answer, number, "report of {length} words");
+            assert!(text.iter().all(|byte| *byte == KEPT));
+            assert!(report.iter().all(|word| *word == KEPT_WORD));
+        }
     }
 }
 
@@ -83,15 +95,11 @@ fn room_that_is_too_short() {
 #[test]
 fn a_short_report_stops_everything() {
     let mut input = Input::good();
-    for _ in 0..2 {
-        for length in 0..WRITE_REPORT_WORDS {
-            let (answer, text, report) = input.write(1000, length);
-            assert_eq!(answer, 8);
-            assert!(text.iter().all(|byte| *byte == KEPT));
-            assert!(report.iter().all(|word| *word == KEPT_WORD));
-        }
-        input.pages.push(0);
+    for room in [0, 1000] {
+        input.is_unreported(room, 8);
     }
+    input.pages.push(0);
+    input.is_unreported(1000, 1);
 }
 
 #[test]

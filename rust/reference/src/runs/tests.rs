@@ -1,4 +1,4 @@
-//! Runs of which the rules say what must come.
+//! What no sheet can bring to a run: broken inputs, and lists at their limits.
 
 use super::*;
 use crate::pages::PAGE_BYTES;
@@ -9,10 +9,8 @@ const STATE: [u64; 10] = [2, 3, 1, 3, 0, 0x40_0000, 0x5010, 0x1ff0, 0, 0xffff_ff
 /// Two pages for shadow stacks and an ordinary one.
 const PAGES: [u64; 3] = [0x1001, 0x2001, 0x5003];
 
-/// INCSSPQ of no element, SAVEPREVSSP, and a call.
+/// INCSSPQ of no element.
 const STAY: [u64; 4] = [2, 4, 0, 0];
-const SAVE: [u64; 4] = [4, 4, 0, 0];
-const CALL: [u64; 4] = [7, 5, 0x10, 0];
 
 /// An input that its owner may alter before the run.
 #[derive(Clone)]
@@ -119,74 +117,10 @@ fn lists_may_be_empty_or_full() {
 }
 
 #[test]
-fn a_run_stops_where_an_instruction_does_not_complete() {
-    let broken = [STAY, CALL, [2, 16, 0, 0], CALL];
-    let report = Draft::of(&broken).run();
-    assert_eq!((report.count, report.ending.refusal()), (2, 6));
-    let good = Draft::of(&broken[..2]).run();
-    assert_eq!(report.moment, good.moment);
-
-    let faulting = Draft::of(&[CALL, STAY, SAVE, CALL]);
-    let report = faulting.run();
-    assert_eq!(report.count, 2);
-    assert_eq!(report.ending.vector(), 13);
-    assert_eq!(Some(report.moment), after(&faulting.input(), 2));
-}
-
-#[test]
 fn a_broken_form_comes_before_a_fault() {
     let mut draft = Draft::of(&[[2, 0, 0, 0]]);
     draft.state[2] = 0;
     assert_eq!(draft.refusal(), 6);
     draft.words[1] = 1;
     assert_eq!(draft.run().ending.vector(), 6);
-}
-
-#[test]
-fn a_page_fault_has_an_address() {
-    let mut draft = Draft::of(&[CALL]);
-    draft.state[7] = 0x1004;
-    let report = draft.run();
-    assert_eq!(report.ending.vector(), 14);
-    assert_eq!(report.ending.address(), 0xffc);
-    assert_eq!(report.ending.error_code(), 0);
-    assert_eq!(report.moment, draft.input().opening());
-}
-
-#[test]
-fn each_instruction_works_on_what_the_last_one_left() {
-    let draft = Draft::of(&[CALL, [6, 4, 0x2ff0, 0x2ff9], [3, 4, 0x2ff0, 0], SAVE]);
-    let report = draft.run();
-    assert_eq!((report.count, report.ending), (4, Ending::Completed));
-    assert_eq!(report.moment.state[5], 0x40_0015 + 12);
-    assert_eq!(report.moment.state[6..8], [0x5008, 0x2ff8]);
-    // 1fe8 held the return address; the token of 1fe8 lies below it.
-    let word =
-        |place: usize| u64::from_le_bytes(*report.moment.bytes[place..].first_chunk().unwrap());
-    assert_eq!(word(0xfe8), 0x40_0005);
-    assert_eq!(word(0xfe0), 0x1fe9);
-    assert_eq!(word(0x1ff0), 0x1feb);
-    assert_eq!(word(0x2008), 0x40_0005);
-}
-
-#[test]
-fn after_so_many_operations() {
-    let draft = Draft::of(&[CALL, STAY, SAVE]);
-    let input = draft.input();
-    assert_eq!(after(&input, 0), Some(input.opening()));
-    for count in 1..3 {
-        let shorter = Input {
-            words: &draft.words[..4 * count],
-            ..input
-        };
-        let moment = after(&input, count as u64);
-        assert_eq!(moment, Some(run(&shorter).moment));
-        assert_ne!(moment, Some(input.opening()));
-    }
-    assert_eq!(after(&input, 3), None);
-    assert_eq!(after(&input, 4), None);
-    let mut refused = draft.clone();
-    refused.state[1] = 4;
-    assert_eq!(after(&refused.input(), 0), Some(refused.input().opening()));
-    assert_eq!(after(&refused.input(), 1), None);
 }

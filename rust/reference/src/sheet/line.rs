@@ -54,23 +54,21 @@ fn read_number(field: &str) -> Option<u64> {
 impl fmt::Display for Line {
     /// The bytes of the line, its line feed among them.
     fn fmt(&self, output: &mut fmt::Formatter) -> fmt::Result {
-        match self {
-            Line::Sheet(version) => print(output, "sheet", &[*version]),
-            Line::State(fields) => print(output, "state", fields),
-            Line::Page(entry) => print(output, "page", &[*entry]),
-            Line::Word { address, value } => print(output, "word", &[*address, *value]),
-            Line::Do(words) => print(output, "do", words),
-        }
+        let text = match self {
+            Line::Sheet(version) => print("sheet", &[*version]),
+            Line::State(fields) => print("state", fields),
+            Line::Page(entry) => print("page", &[*entry]),
+            Line::Word { address, value } => print("word", &[*address, *value]),
+            Line::Do(words) => print("do", words),
+        };
+        output.write_str(&text)
     }
 }
 
-/// Prints a name and its numbers.
-fn print(output: &mut fmt::Formatter, name: &str, numbers: &[u64]) -> fmt::Result {
-    output.write_str(name)?;
-    for number in numbers {
-        write!(output, "\tx{number:016x}")?;
-    }
-    output.write_str("\n")
+/// A name and its numbers as a line, its line feed among them.
+pub(crate) fn print(name: &str, numbers: &[u64]) -> String {
+    let fields: String = numbers.iter().map(|one| format!("\tx{one:016x}")).collect();
+    format!("{name}{fields}\n")
 }
 
 #[cfg(test)]

@@ -1,4 +1,5 @@
-//! Sheets of which the rules say what must come. Tabs are shown as `|`.
+//! What no stored text can say of sheets: buffers, reports, writes, and lines in
+//! many wrong places. Tabs are shown as `|`.
 
 use super::*;
 
@@ -174,17 +175,6 @@ fn lines_that_are_missing_or_not_ended() {
 }
 
 #[test]
-fn lines_that_are_not_understood() {
-    refused(&tabs("sheet|x0000000000000002\n"), 9, 1);
-    refused(&[b"\xef\xbb\xbf", &tabs(BARE)[..]].concat(), 9, 1);
-    refused(&tabs(&BARE.replace("ffffffff\n", "ffffffff\r\n")), 9, 2);
-    refused(&tabs(&BARE.replace("ffffffff\n", "fffffffF\n")), 9, 2);
-    for wrong in ["word", "do|x0000000000000001", "page|x1", "call", "|", " "] {
-        refused(&with(&[REST[0], wrong, REST[1]]), 9, 4);
-    }
-}
-
-#[test]
 fn lines_that_stand_in_a_wrong_place() {
     let [low, high, top, first, second, last, call, other] = REST;
     for (lines, line) in [
@@ -276,51 +266,73 @@ fn a_result_that_is_longer_than_its_buffer() {
 }
 
 #[test]
-fn a_report_that_is_too_short() {
+fn a_report_that_is_too_short_is_refused_last_and_stays() {
+    let seventeen = pages(17);
+    let seventeen: Vec<&str> = seventeen.iter().map(String::as_str).collect();
     for room in 0..5 {
-        let mut wanted = Desk::large();
-        wanted.report.truncate(room);
-        for text in [with(&REST), Vec::new()] {
-            let seen = wanted.clone().read(&text);
-            wanted.returned = 8;
-            assert!(seen == wanted);
-            wanted.returned = OLD;
+        for (text, refusal) in [
+            (with(&REST), 8),
+            (Vec::new(), 9),
+            (with(&seventeen), 1),
+            (with(&["page|x0000000000001000"]), 2),
+            (with(&["page|x0000800000000001"]), 3),
+            (with_state([3; 10]), 5),
+            (with(&[REST[7]; 1025]), 7),
+        ] {
+            for mut wanted in [Desk::large(), Desk::new(0, 0, 0, 0)] {
+                wanted.report.truncate(room);
+                let seen = wanted.clone().read(&text);
+                wanted.returned = refusal;
+                assert!(seen == wanted, "{room} {refusal}");
+            }
         }
     }
-    let run = three_pages();
-    let mut text = [b'?'; 1000];
-    for report in [&mut [][..], &mut [OLD]] {
-        let returned = write_sheet(
-            &run.state, &run.pages, &run.bytes, &run.words, &mut text, report,
-        );
-        assert_eq!(returned, 8);
-        assert!(report.iter().all(|&word| word == OLD));
-        assert_eq!(text, [b'?'; 1000]);
+    let nothing: Spoiler = (|_| (), 8);
+    for (spoil, refusal) in SPOILERS.into_iter().chain([nothing]) {
+        let mut run = three_pages();
+        spoil(&mut run);
+        let mut text = [b'?'; 1000];
+        for report in [&mut [][..], &mut [OLD]] {
+            let returned = write_sheet(
+                &run.state, &run.pages, &run.bytes, &run.words, &mut text, report,
+            );
+            assert_eq!(returned, refusal);
+            assert!(report.iter().all(|&word| word == OLD));
+            assert_eq!(text, [b'?'; 1000]);
+        }
     }
 }
 
+/// A way to spoil a run, with the refusal that it earns.
+type Spoiler = (fn(&mut Desk), u64);
+
+/// One or more for each refusal of a write but 8.
+const SPOILERS: [Spoiler; 9] = [
+    (|run| run.bytes.push(0), 1),
+    (|run| run.pages[1] = 0x2000, 2),
+    (|run| run.pages[0] = 0x0000_8000_0000_0001, 3),
+    (|run| run.pages[1] = 0x1002, 4),
+    (|run| run.state[7] = 2, 5),
+    (|run| run.state.push(0), 5),
+    (|run| run.state.clear(), 5),
+    (|run| run.words.push(0), 7),
+    (
+        |run| {
+            run.state.clear();
+            run.pages[1] = 0x1002;
+        },
+        4,
+    ),
+];
+
 #[test]
 fn a_write_tests_the_run_first() {
-    let change = |change: fn(&mut Desk)| {
+    for (spoil, refusal) in SPOILERS {
         let mut run = three_pages();
-        change(&mut run);
-        let (text, report) = run.write(2000);
-        assert_eq!(text, [b'?'; 2000]);
-        assert_eq!(run.write(0).1, report);
-        assert_eq!(report[1..], [0, OLD]);
-        report[0]
-    };
-    assert_eq!(change(|run| run.bytes.push(0)), 1);
-    assert_eq!(change(|run| run.pages[1] = 0x2000), 2);
-    assert_eq!(change(|run| run.pages[0] = 0x0000_8000_0000_0001), 3);
-    assert_eq!(change(|run| run.pages[1] = 0x1002), 4);
-    assert_eq!(change(|run| run.state[7] = 2), 5);
-    assert_eq!(change(|run| run.state.push(0)), 5);
-    assert_eq!(change(|run| run.state.clear()), 5);
-    assert_eq!(change(|run| run.words.push(0)), 7);
-    let state_and_page = |run: &mut Desk| {
-        run.state.clear();
-        run.pages[1] = 0x1002;
-    };
-    assert_eq!(change(state_and_page), 4);
+        spoil(&mut run);
+        for room in [0, 2000] {
+            let untouched = (vec![b'?'; room], [refusal, 0, OLD]);
+            assert_eq!(run.write(room), untouched);
+        }
+    }
 }

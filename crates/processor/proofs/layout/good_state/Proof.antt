@@ -1,7 +1,6 @@
 -- `good_state` meets its contract, by what the words make. Assumes nothing.
-use mathlib.Core.Path.{sym, ap, _∙_}
-use Rattle.processor.specs.State.{inRange}
-use Rattle.processor.proofs.Layouts.{formed-whole, formed-none, good-whole, good-none}
+use mathlib.Core.Path.{sym, _∙_}
+use Rattle.processor.specs.Layout.{goodState}
 use borrow.Author.Needs.{needs}
 use Rattle.processor.proofs.layout.good_state.Statement.{statement}
 use Rattle.processor.proofs.layout.good_state.Tie as tie
@@ -19,13 +18,14 @@ enum-told : tie.Need-enum-told
 enum-told c = search needs
 
 returns : tie.Need-returns
+unfolding goodState
 returns c =
     let told = c .before in
-    let whole = formed-whole _ _ (sym (told .before .before .before .state-of .ensures) ∙ told .before .state .given .1) in
-    c .in-range .ensures ∙ ap inRange (whole .1) ∙ sym (good-whole _ (whole .0))
+    rw (sym (told .before .before .before .state-of .ensures) ∙ told .before .state .given .1) (c .in-range .ensures)
 
 returns-2 : tie.Need-returns-2
-returns-2 c = sym (good-none _ (formed-none _ (sym (c .before .before .state-of .ensures) ∙ c .enum-told .given .1)))
+unfolding goodState
+returns-2 c = rw (sym (c .before .before .state-of .ensures) ∙ c .enum-told .given .1)
 
 pub good-state-spec : {M : Type 1} → statement M
 good-state-spec =

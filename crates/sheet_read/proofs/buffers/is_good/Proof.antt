@@ -1,10 +1,7 @@
 -- `is_good` meets its contract: the fields fill the array. Assumes nothing.
 use mathlib.Core.Path.{_∙_, sym, ap}
-use Rattle.sheet.specs.declared.line.Line.the-variants.{State}
-use Rattle.sheet_read.specs.Scan.{numbersIn}
 use Rattle.numbers.proofs.Laws.{laid-whole}
 use Rattle.processor.specs.Layout.{goodState}
-use Rattle.processor.proofs.Layouts.{good-whole}
 use Rattle.sheet_read.proofs.Saved.{fields-long}
 use borrow.Author.Needs.{needs}
 use Rattle.sheet_read.proofs.buffers.is_good.Statement.{statement}
@@ -28,7 +25,7 @@ returns c =
     let start = after-fill-lines .before .before .before in
     let long = fields-long (start .args .text .now) (start .args .shape) (start .pre) in
     let whole = after-fill-lines .fill-lines .ensures ∙ laid-whole _ _ (sym long) in
-    c .good-state .ensures ∙ ap goodState whole ∙ good-whole (numbersIn State (start .args .shape .state) (start .args .text .now)) long
+    c .good-state .ensures ∙ ap goodState whole
 
 pub is-good-spec : {M : Type 1} → statement M
 is-good-spec =

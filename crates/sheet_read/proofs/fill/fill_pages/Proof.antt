@@ -46,8 +46,7 @@ text c = c .before .before .before .args .text .now
 
 field-requires : tie.Need-field-requires Inv-loop μ-loop
 field-requires c κs =
-    let at-loop = c .before in
-    (
+    let at-loop = c .before in (
       lead-front Page (at-loop .loop .left) (text at-loop) (at-loop .loop .page) (at-loop .loop .inv .1) (c .loop-test .taken),
       omega arith,
     )

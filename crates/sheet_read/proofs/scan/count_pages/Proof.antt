@@ -9,7 +9,7 @@ use borrow.Author.Needs.{needs}
 use Rattle.sheet.specs.Lines.{lines, begins, form, width}
 use Rattle.sheet.specs.Reading.{pageCount}
 use Rattle.sheet.specs.declared.line.Line.the-variants.{Page}
-use Rattle.sheet_read.proofs.Places.{line-past, frame-room}
+use Rattle.sheet_read.proofs.Places.{line-past, page-number-room}
 use Rattle.sheet_read.proofs.Stages.{counted-turn, counted-end, page-turn, page-low, page-end}
 use Rattle.sheet_read.proofs.scan.count_pages.Statement.{statement}
 use Rattle.sheet_read.proofs.scan.count_pages.Tie as tie
@@ -45,22 +45,22 @@ past c =
 field-requires : tie.Need-field-requires Inv-loop μ-loop
 field-requires c κs = (begun c, omega arith)
 
-frame-requires : tie.Need-frame-requires Inv-loop μ-loop
-frame-requires c κs = search needs
+page-number-requires : tie.Need-page-number-requires Inv-loop μ-loop
+page-number-requires c κs = search needs
 
 returns : tie.Need-returns Inv-loop μ-loop
 returns c =
     let then1 = c .before .before .before in
     let at-loop = then1 .before .before in
     counted-end _ (at-loop .loop .inv .0)
-    (page-low (text at-loop) (at-loop .loop .here) _ _ (begun then1) (c .before .before .field .ensures) (rw (c .before .frame .ensures) at (c .if2 .taken)))
+    (page-low (text at-loop) (at-loop .loop .here) _ _ (begun then1) (c .before .before .field .ensures) (rw (c .before .page-number .ensures) at (c .if2 .taken)))
 
 add-least : tie.Need-add-least Inv-loop μ-loop
 add-least c =
     let after-field = c .before .before in
     let at-loop = after-field .before .before .before in
-    let small = frame-room (take (width Page) (drop (at-loop .loop .here) (text at-loop))) in
-    rw (c .before .frame .ensures, after-field .field .ensures) (omega (arith, small))
+    let small = page-number-room (take (width Page) (drop (at-loop .loop .here) (text at-loop))) in
+    rw (c .before .page-number .ensures, after-field .field .ensures) (omega (arith, small))
 
 add-n : tie.Need-add-n Inv-loop μ-loop
 add-n c = omega (arith, past (c .before .before .before))
@@ -77,11 +77,11 @@ loop-again c =
     let after-field = else2 .before .before in
     let then1 = after-field .before in
     let at-loop = then1 .before .before in
-    rw (c .past .ensures, else2 .before .frame .ensures)
+    rw (c .past .ensures, else2 .before .page-number .ensures)
     ((
       counted-turn _ _ _ (at-loop .loop .inv .0)
           (page-turn (text at-loop) (at-loop .loop .here) _ _ (begun then1) (after-field .field .ensures)
-          (rw (else2 .before .frame .ensures) at (else2 .if2 .left))),
+          (rw (else2 .before .page-number .ensures) at (else2 .if2 .left))),
       omega arith,
     ))
 
@@ -99,7 +99,7 @@ count-pages-spec =
     loop-holds
     stands-requires
     field-requires
-    frame-requires
+    page-number-requires
     returns
     add-least
     add-n

@@ -59,8 +59,7 @@ loop-less c = omega (arith, past (c .before), c .width .ensures)
 
 loop-again : tie.Need-loop-again Inv-loop μ-loop
 loop-again c =
-    let at-loop = c .before .before .before in
-    (
+    let at-loop = c .before .before .before in (
       rw (c .width .ensures) (counted-turn _ _ _ (at-loop .loop .inv .0) (plain-turn (kind at-loop) (text at-loop) (at-loop .loop .here) (begun (c .before)))),
       omega (arith, c .width .ensures),
     )

@@ -41,8 +41,7 @@ past-requires-2 c κs = omega (arith, room-pages c)
 count-words-requires : tie.Need-count-words-requires
 count-words-requires c κs =
     let after-count-pages = c .before in
-    let after-past = after-count-pages .before in
-    (
+    let after-past = after-count-pages .before in (
       pages-in (text after-past) _ (after-past .before .before .pre) (pages after-count-pages) (after-past .past .ensures) (after-count-pages .count-pages .ensures),
       pages-stand (text after-past) _ (after-past .before .before .pre) (pages after-count-pages) (after-past .past .ensures) (after-count-pages .count-pages .ensures),
       rw (c .past2 .ensures) (room-pages after-count-pages),

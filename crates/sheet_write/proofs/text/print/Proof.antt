@@ -5,12 +5,13 @@ use mathlib.Core.List.{List}
 use native.Mathlib.Omega.{arith}
 use lib.ListN.{length}
 use Rattle.processor.specs.Layout.{goodState}
+use Rattle.processor.proofs.Layouts.{good-fields}
 use Rattle.instructions.specs.Instruction.{instructionWords}
 use Rattle.sheet.specs.Sheets.{text, savedOf}
 use Rattle.sheet.proofs.TestedLaws.{Passes, passes}
 use Rattle.sheet_write.specs.Laying.{textLength}
 use Rattle.sheet_write.proofs.Answers.{too-long, done}
-use Rattle.sheet_write.proofs.Apart.{lent, all-fields}
+use Rattle.sheet_write.proofs.Apart.{lent}
 use Rattle.sheet_write.proofs.Sizes.{nonzeros-most, text-size}
 use borrow.Author.Needs.{needs}
 use Rattle.sheet_write.proofs.text.print.Statement.{statement}
@@ -34,7 +35,7 @@ long c =
     c .text-length .ensures
     ∙ ap (λ (values : ℕ). textLength (length (start .args .pages .now)) values (length (start .args .words .now) / instructionWords)) (c .before .nonzero .ensures)
     ∙ sym (text-size (start .args .state .now) (start .args .pages .now) (start .args .bytes .now) (start .args .words .now)
-    (all-fields _ (ready .state)) (ready .list .whole))
+    (good-fields _ (ready .state)) (ready .list .whole))
 
 nonzero-requires : tie.Need-nonzero-requires
 nonzero-requires c κs = search needs
@@ -58,7 +59,7 @@ lay-requires c κs =
     let ready = tested (way-text-length after-text-length .start) in
     let long-is = long after-text-length in
     let fits = c .before .if1 .left in
-    ((all-fields _ (ready .state), lent _ _ (ready .list)), omega arith)
+    ((good-fields _ (ready .state), lent _ _ (ready .list)), omega arith)
 
 same-length : tie.Need-same-length
 same-length c = search needs

@@ -47,6 +47,21 @@ impl Run {
     }
 }
 
+#[cfg(test)]
+impl Run {
+    /// The run of a stored sheet, by its folder and name: `worked/p04`.
+    pub fn stored(name: &str) -> Run {
+        let sheets = PathBuf::from(env!("CARGO_MANIFEST_DIR")).join("../../sheets");
+        let source = Source::File(sheets.join(format!("{name}.sheet")));
+        let text = source.text().unwrap();
+        let sheet = Sheet::read(&text).unwrap();
+        Run {
+            title: name.to_string(),
+            ..Run::of_sheet(&source, &text, sheet)
+        }
+    }
+}
+
 /// Where a text comes from.
 #[derive(Clone, Debug, PartialEq, Eq)]
 pub enum Source {

@@ -2,7 +2,6 @@
 //!
 //! * `request`: what the arguments ask for.
 //! * `input`: runs to be replayed, and texts with the places they come from.
-//! * `worked`: the worked cases of the rules, the runs that are built in.
 //! * `steps`: replaying a run by single steps, held to the whole run.
 //! * `account`: what a RET or a WRUSS did, in words; `why` has why it faulted.
 //! * `show`: the text for a person.
@@ -27,7 +26,6 @@ mod sent_back;
 mod show;
 mod steps;
 mod why;
-mod worked;
 
 use driftpocket::Sheet;
 use input::{Run, Source};
@@ -35,6 +33,9 @@ use request::Request;
 use std::env;
 use std::io::{self, IsTerminal, Write};
 use std::process::ExitCode;
+
+/// The status where all is well.
+const WELL: u8 = 0;
 
 /// The status where something could not be replayed or did not agree.
 const FAILED: u8 = 1;
@@ -44,28 +45,38 @@ const MISUSED: u8 = 2;
 
 fn main() -> ExitCode {
     let arguments: Vec<_> = env::args_os().skip(1).collect();
-    match request::read(&arguments, io::stdin().is_terminal()) {
+    let status = match request::read(&arguments, io::stdin().is_terminal()) {
         Ok(Request::Help) => write_out(request::HELP.as_bytes(), true),
-        Ok(Request::Worked) => match worked::runs() {
-            Ok(runs) => replay_all(&runs),
-            Err(error) => complain(&error.to_string(), FAILED),
-        },
-        Ok(Request::Sheet(source)) => with_text(&source, replay_sheet),
+        Ok(Request::Sheets(sources)) => replay_all(&sources),
         Ok(Request::Restore(source)) => with_text(&source, restore_sheet),
         Err(message) => complain(&message, MISUSED),
-    }
+    };
+    ExitCode::from(status)
 }
 
 /// Reads a text, and does something with it.
-fn with_text(source: &Source, act: fn(&Source, &[u8]) -> ExitCode) -> ExitCode {
+fn with_text(source: &Source, act: fn(&Source, &[u8]) -> u8) -> u8 {
     match source.text() {
         Ok(text) => act(source, &text),
         Err(message) => complain(&message, FAILED),
     }
 }
 
+/// Replays the runs of sheets, an empty line between any two. The status is the
+/// worst of theirs.
+fn replay_all(sources: &[Source]) -> u8 {
+    let mut worst = WELL;
+    for (place, source) in sources.iter().enumerate() {
+        if place > 0 {
+            worst = worst.max(write_out(b"\n", true));
+        }
+        worst = worst.max(with_text(source, replay_sheet));
+    }
+    worst
+}
+
 /// Replays the run of a sheet.
-fn replay_sheet(source: &Source, text: &[u8]) -> ExitCode {
+fn replay_sheet(source: &Source, text: &[u8]) -> u8 {
     let sheet = match Sheet::read(text) {
         Ok(sheet) => sheet,
         Err(error) => return complain(&refused::message(source, text, error), FAILED),
@@ -78,11 +89,11 @@ fn replay_sheet(source: &Source, text: &[u8]) -> ExitCode {
 
 /// Writes a text without what a spreadsheet has added, and says whether it is
 /// a sheet.
-fn restore_sheet(source: &Source, text: &[u8]) -> ExitCode {
+fn restore_sheet(source: &Source, text: &[u8]) -> u8 {
     let restored = restore::restored(text);
     let taken = restore::taken(text);
     let written = write_out(&restored, true);
-    if written != ExitCode::SUCCESS {
+    if written != WELL {
         return written;
     }
     match Sheet::read(&restored) {
@@ -90,41 +101,27 @@ fn restore_sheet(source: &Source, text: &[u8]) -> ExitCode {
             tell(&format!(
                 "{source}: taken off the ends of lines: {taken}; it is a sheet"
             ));
-            ExitCode::SUCCESS
+            WELL
         }
         Err(error) => complain(&refused::message(source, &restored, error), FAILED),
     }
 }
 
-/// Replays and shows all runs.
-fn replay_all(runs: &[Run]) -> ExitCode {
-    let mut text = String::new();
-    let mut agreed = 0;
-    for run in runs {
-        let replay = steps::replay(run);
-        agreed += usize::from(replay.is_sound());
-        text.push_str(&show::worked(run, &replay));
-        text.push('\n');
-    }
-    text.push_str(&show::summary(runs.len(), agreed));
-    write_out(text.as_bytes(), agreed == runs.len())
-}
-
 /// Writes a text. The status is 0 only if all is well and the text got out.
-fn write_out(text: &[u8], well: bool) -> ExitCode {
+fn write_out(text: &[u8], well: bool) -> u8 {
     let mut out = io::stdout().lock();
     let written = out.write_all(text).and_then(|()| out.flush());
     match written {
-        Ok(()) if well => ExitCode::SUCCESS,
-        Ok(()) => ExitCode::from(FAILED),
+        Ok(()) if well => WELL,
+        Ok(()) => FAILED,
         Err(error) => complain(&format!("cannot write: {error}"), FAILED),
     }
 }
 
 /// Says what is wrong.
-fn complain(message: &str, status: u8) -> ExitCode {
+fn complain(message: &str, status: u8) -> u8 {
     tell(message);
-    ExitCode::from(status)
+    status
 }
 
 /// Tells a person something. If it cannot be told, the status is left to say.

@@ -7,7 +7,8 @@ use std::ffi::{OsStr, OsString};
 pub const HELP: &str = "\
 replay: shows, instruction by instruction, what the shadow stack did.
 
-usage: replay FILE             replay the run sheet in this file
+usage: replay FILE ..          replay the run sheet in this file, or in each of
+                               these files
        replay -                the same from standard input; so does replay
                                alone, unless that is a terminal
        replay --restore FILE   write the text of this file (or of - or standard
@@ -15,8 +16,6 @@ usage: replay FILE             replay the run sheet in this file
                                carriage returns that a spreadsheet leaves at
                                the ends of lines, and say whether it is a sheet;
                                send it to another file than FILE
-       replay --worked         replay the worked cases of the rules, P1 to P19
-                               and R1 to R17
        replay --help           this text
 
 For a sheet it shows the state, the pages and what they hold, and then each
@@ -34,10 +33,9 @@ refusal, the line, what stands there and what was expected, on standard error.
 Each run is made twice: one instruction at a time, which is what is shown, and
 once as a whole. Both must come to the same end.
 
-status: 0 every instruction completed; the restored text is a sheet; or each
-          worked case was replayed
-        1 the run ended in a fault or a refusal, the text is no sheet or cannot
-          be read, or the two ways to run it did not agree
+status: 0 every instruction completed, or the restored text is a sheet
+        1 a run ended in a fault or a refusal, a text is no sheet or cannot be
+          read, or the two ways to run one did not agree
         2 the arguments make no sense
 ";
 
@@ -46,10 +44,8 @@ status: 0 every instruction completed; the restored text is a sheet; or each
 pub enum Request {
     /// To say what the program does.
     Help,
-    /// To replay the worked cases.
-    Worked,
-    /// To replay a sheet.
-    Sheet(Source),
+    /// To replay these sheets.
+    Sheets(Vec<Source>),
     /// To get a sheet back from what a spreadsheet has saved.
     Restore(Source),
 }
@@ -59,16 +55,17 @@ pub enum Request {
 pub fn read(arguments: &[OsString], terminal: bool) -> Result<Request, String> {
     match arguments {
         [] if terminal => Err("no sheet is named; see replay --help".to_string()),
-        [] => Ok(Request::Sheet(Source::Input)),
+        [] => Ok(Request::Sheets(vec![Source::Input])),
         [only] if only == "--help" || only == "-h" => Ok(Request::Help),
-        [only] if only == "--worked" => Ok(Request::Worked),
         [only] if only == "--restore" && terminal => {
             Err("no text to restore is named; see replay --help".to_string())
         }
         [only] if only == "--restore" => Ok(Request::Restore(Source::Input)),
-        [only] => Ok(Request::Sheet(source(only)?)),
         [first, text] if first == "--restore" => Ok(Request::Restore(source(text)?)),
-        [_, second, ..] => Err(unexpected(second)),
+        all => {
+            let sources = all.iter().map(|one| source(one));
+            Ok(Request::Sheets(sources.collect::<Result<_, _>>()?))
+        }
     }
 }
 
@@ -101,13 +98,16 @@ mod tests {
     fn what_is_understood() {
         let file = || Source::File("a.sheet".into());
         let cases = [
-            (vec![], Request::Sheet(Source::Input)),
-            (vec!["-"], Request::Sheet(Source::Input)),
-            (vec!["a.sheet"], Request::Sheet(file())),
+            (vec![], Request::Sheets(vec![Source::Input])),
+            (vec!["-"], Request::Sheets(vec![Source::Input])),
+            (vec!["a.sheet"], Request::Sheets(vec![file()])),
+            (
+                vec!["a.sheet", "-"],
+                Request::Sheets(vec![file(), Source::Input]),
+            ),
             (vec!["--restore"], Request::Restore(Source::Input)),
             (vec!["--restore", "-"], Request::Restore(Source::Input)),
             (vec!["--restore", "a.sheet"], Request::Restore(file())),
-            (vec!["--worked"], Request::Worked),
             (vec!["--help"], Request::Help),
             (vec!["-h"], Request::Help),
         ];
@@ -121,11 +121,11 @@ mod tests {
         let cases: [(&[&str], &str); 7] = [
             (&["--loud"], "--loud"),
             (&[""], ""),
-            (&["--help", "more"], "more"),
-            (&["a.sheet", "b.sheet"], "b.sheet"),
-            (&["--restore", "--worked"], "--worked"),
-            (&["--restore", "a", "b"], "a"),
-            (&["--worked", ""], ""),
+            (&["--help", "more"], "--help"),
+            (&["a.sheet", "--help"], "--help"),
+            (&["a.sheet", "b.sheet", ""], ""),
+            (&["--restore", "--loud"], "--loud"),
+            (&["--restore", "a", "b"], "--restore"),
         ];
         for (arguments, named) in cases {
             let message = format!("unexpected argument '{named}'; see replay --help");
@@ -138,6 +138,6 @@ mod tests {
         assert!(read(&[], true).is_err());
         assert!(read(&["--restore".into()], true).is_err());
         let asked = read(&["-".into()], true);
-        assert_eq!(asked, Ok(Request::Sheet(Source::Input)));
+        assert_eq!(asked, Ok(Request::Sheets(vec![Source::Input])));
     }
 }

@@ -4,20 +4,12 @@ use crate::form;
 use crate::input::Run;
 use crate::steps::{Replay, Step};
 use driftpocket::{Answer, Fault, Outcome, PageList, Refusal, Sheet, Size, State};
-use std::fmt::Write;
 
 /// How many numbers are shown of one page at most.
 const MOST_NUMBERS: usize = 16;
 
 /// How a page is divided to be shown.
 const NUMBERS_OF_A_PAGE: u64 = 512;
-
-/// A worked run with its replay.
-pub fn worked(run: &Run, replay: &Replay) -> String {
-    let mut lines = replayed(run, replay);
-    lines.extend(end(run, replay).into_iter().map(indented));
-    text_of(lines)
-}
 
 /// The run of a sheet with its replay.
 pub fn sheet(run: &Run, replay: &Replay) -> String {
@@ -42,11 +34,6 @@ fn replayed(run: &Run, replay: &Replay) -> Vec<String> {
 /// Lines as one text.
 fn text_of(lines: Vec<String>) -> String {
     lines.into_iter().map(|line| line + "\n").collect()
-}
-
-/// The last line, about all runs.
-pub fn summary(runs: usize, agreed: usize) -> String {
-    format!("{runs} runs replayed; {agreed} of them agree with the run as a whole\n")
 }
 
 /// A line below a title.
@@ -162,19 +149,6 @@ fn change(old: u64, new: u64) -> String {
     }
 }
 
-/// How the run ended.
-fn end(run: &Run, replay: &Replay) -> Vec<String> {
-    let outcome = replay.outcome;
-    let mut text = format!("completed {} of {}", outcome.count, run.instructions.len());
-    if !outcome.answer.is_completed() {
-        let next = format!("instruction {}", outcome.count + 1);
-        let _ = write!(text, "; {}", stop(&next, &outcome.answer));
-    }
-    let mut lines = vec![text, format!("ends with {}", registers(&replay.state))];
-    lines.extend(doubts(replay));
-    lines
-}
-
 /// What does not fit together.
 fn doubts(replay: &Replay) -> impl Iterator<Item = String> {
     let doubts = replay.doubts.iter();
@@ -272,30 +246,25 @@ fn details(fault: &Fault) -> String {
 #[cfg(test)]
 mod tests {
     use super::*;
-    use crate::{steps, worked};
+    use crate::steps;
     use driftpocket::{Instruction, Kind};
 
-    /// The text of a worked run.
+    /// The text of a run.
     fn text(one: &Run) -> String {
-        worked(one, &steps::replay(one))
+        sheet(one, &steps::replay(one))
     }
 
-    /// The last four lines of the same run as that of a sheet.
+    /// Its last four lines.
     fn last_lines(one: &Run) -> Vec<String> {
-        let text = sheet(one, &steps::replay(one));
+        let text = text(one);
         let lines: Vec<_> = text.lines().map(str::to_string).collect();
         lines[lines.len() - 4..].to_vec()
-    }
-
-    /// The worked run with this place in the list.
-    fn worked_run(place: usize) -> Run {
-        worked::runs().unwrap().swap_remove(place)
     }
 
     #[test]
     fn a_switch_in_full() {
         let wanted = "\
-P4. RSTORSSP switches to the stack whose token fits.
+worked/p04
   mode 2 (64-bit), CPL 3, CR4.CET 1, U_CET 0x1, S_CET 0x0, code limit 0xffffffff
   starts with SSP 0x1ff0, IP 0x400000, SP 0x5010, RFLAGS 0x0 (CF 0)
   page 0x1000, user shadow
@@ -309,37 +278,33 @@ P4. RSTORSSP switches to the stack whose token fits.
      load 0x2ff9, 8 bytes, from shadow 0x2ff0
      store 0x1ff3, 8 bytes, to shadow 0x2ff0
 
-  completed 1 of 1
-  ends with SSP 0x2ff0, IP 0x400005, SP 0x5010, RFLAGS 0x0 (CF 0)
+count: 1 of 1
 ";
-        assert_eq!(text(&worked_run(4)), wanted);
+        assert!(text(&Run::stored("worked/p04")).starts_with(wanted));
     }
 
     #[test]
-    fn ends_in_words_and_numbers() {
-        let page_fault = text(&worked_run(1));
-        assert!(page_fault.contains(
-            "completed 0 of 1; instruction 1 faults, #PF at 0x3000 \
-             (page fault: vector 14, error code 0, address 0x3000)\n"
-        ));
-        let mut run = worked_run(0);
+    fn ends_in_words() {
+        let mut run = Run::stored("worked/p01");
         run.instructions
             .push(Instruction::from_words([13, 1, 0, 0]));
         assert!(text(&run).contains(
-            "completed 1 of 2; instruction 2 is sent back, \
+            "count: 1 of 2\nanswer: 6 (refusal 6, vector 0, error code 0, address 0x0)\n\
+             in words: instruction 2 (line 7) is sent back, \
              refusal 6: the instruction breaks its form\n"
         ));
         run.state.mode = 3;
         assert!(text(&run).contains("mode 3 (none)"));
         assert!(text(&run).contains(
-            "completed 0 of 2; the run is sent back before any step, \
+            "count: 0 of 2\nanswer: 5 (refusal 5, vector 0, error code 0, address 0x0)\n\
+             in words: the run is sent back before any step, \
              refusal 5: a field of the state is out of its range\n"
         ));
     }
 
     #[test]
     fn the_end_of_a_sheet() {
-        let completed = last_lines(&worked_run(0));
+        let completed = last_lines(&Run::stored("worked/p01"));
         assert_eq!(
             completed[..3],
             [
@@ -354,13 +319,13 @@ P4. RSTORSSP switches to the stack whose token fits.
              \tx0000000000000000\tx0000000000400005\tx0000000000005010\tx0000000000001ff8\
              \tx0000000000000000\tx00000000ffffffff"
         );
-        let faulted = last_lines(&worked_run(1));
+        let faulted = last_lines(&Run::stored("worked/p02"));
         assert_eq!(
             faulted[..3],
             [
                 "count: 0 of 1",
                 "answer: 270 (refusal 0, vector 14, error code 0, address 0x3000)",
-                "in words: instruction 1 faults, #PF at 0x3000 \
+                "in words: instruction 1 (line 6) faults, #PF at 0x3000 \
                  (page fault: vector 14, error code 0, address 0x3000)",
             ]
         );
@@ -368,9 +333,8 @@ P4. RSTORSSP switches to the stack whose token fits.
 
     #[test]
     fn the_end_of_a_sheet_with_an_instruction_that_breaks_its_form() {
-        let mut refused = worked_run(0);
+        let mut refused = Run::stored("worked/p01");
         refused.instructions[0].length = 16;
-        refused.lines_before = Some(5);
         assert_eq!(
             last_lines(&refused)[..3],
             [
@@ -384,13 +348,13 @@ P4. RSTORSSP switches to the stack whose token fits.
 
     #[test]
     fn a_pointer_that_stays_is_said_to() {
-        let write = text(&worked_run(10));
+        let write = text(&Run::stored("worked/p09-second"));
         assert!(write.contains("     SSP 0x1ff0 stays\n     IP 0x400000 -> 0x400006\n"));
     }
 
     #[test]
     fn an_account_follows_the_loads_and_stores() {
-        let mut run = worked_run(12);
+        let mut run = Run::stored("worked/p10");
         run.instructions.push(Instruction::ret(1));
         assert!(text(&run).contains(
             "  2. RET (1 byte)

@@ -20,7 +20,7 @@ pub struct Step {
     pub before: State,
     /// The state after it.
     pub after: State,
-    /// What it loaded and stored, if it completed.
+    /// What it loaded and stored.
     pub accesses: Vec<Access>,
     /// How it ended.
     pub answer: Answer,
@@ -157,11 +157,7 @@ impl Walk {
         if outcome.count != usize::from(completed) {
             self.doubts.push(Doubt::Count(number));
         }
-        let accesses = if completed {
-            trace::of(instruction, &before, &pages)
-        } else {
-            Some(Vec::new())
-        };
+        let accesses = trace::of(instruction, &before, &pages);
         if !completed && (self.state != before || self.pages != pages) {
             self.doubts.push(Doubt::Changed(number));
         } else if !is_accounted(&accesses, &pages, &self.pages) {
@@ -193,13 +189,8 @@ fn is_accounted(accesses: &Option<Vec<Access>>, before: &PageList, after: &PageL
 #[cfg(test)]
 mod tests {
     use super::*;
-    use crate::worked;
     use driftpocket::Size;
-
-    /// The worked run with this place in the list.
-    fn worked_run(place: usize) -> Run {
-        worked::runs().unwrap().swap_remove(place)
-    }
+    use std::fs;
 
     /// A runner that does as the library and then something more.
     fn and_then(
@@ -244,18 +235,28 @@ mod tests {
     }
 
     #[test]
-    fn the_worked_runs_are_sound() {
-        for run in worked::runs().unwrap() {
+    fn the_worked_cases_are_sound() {
+        let folder = concat!(env!("CARGO_MANIFEST_DIR"), "/../../sheets/worked");
+        let paths = fs::read_dir(folder)
+            .unwrap()
+            .map(|file| file.unwrap().path());
+        let sheets = paths.filter(|path| path.extension().is_some_and(|end| end == "sheet"));
+        let mut count = 0;
+        for sheet in sheets {
+            let name = sheet.file_stem().unwrap().to_str().unwrap();
+            let run = Run::stored(&format!("worked/{name}"));
             let replay = replay(&run);
             assert!(replay.is_sound(), "{} {:?}", run.title, replay.doubts);
             let tried = replay.outcome.count + usize::from(!replay.outcome.answer.is_completed());
             assert_eq!(replay.steps.len(), tried);
+            count += 1;
         }
+        assert!(count > 50, "only {count} sheets");
     }
 
     #[test]
     fn a_whole_run_that_differs_is_found() {
-        let switch = worked_run(5);
+        let switch = Run::stored("worked/p05");
         let replay = replay_by(spoils_bytes, &switch);
         assert_eq!(replay.doubts, [Doubt::Bytes]);
         assert!(!replay.is_sound());
@@ -265,16 +266,16 @@ mod tests {
 
     #[test]
     fn a_step_that_does_too_much_is_found() {
-        let replay = replay_by(stores_more, &worked_run(5));
+        let replay = replay_by(stores_more, &Run::stored("worked/p05"));
         // The second step stores once more what is there already.
         assert_eq!(replay.doubts, [Doubt::Accesses(1), Doubt::Bytes]);
-        let sixth = replay_by(spoils_state, &worked_run(6));
+        let sixth = replay_by(spoils_state, &Run::stored("worked/p06"));
         assert_eq!(sixth.doubts, [Doubt::Changed(4), Doubt::State]);
     }
 
     #[test]
     fn a_wrong_count_is_found() {
-        let replay = replay_by(counts_more, &worked_run(0));
+        let replay = replay_by(counts_more, &Run::stored("worked/p01"));
         let whole = Outcome {
             count: 2,
             answer: Answer::Completed,
@@ -284,12 +285,12 @@ mod tests {
 
     #[test]
     fn input_that_is_sent_back_takes_no_step() {
-        let mut run = worked_run(5);
+        let mut run = Run::stored("worked/p05");
         run.state.cpl = 4;
         let five = replay(&run);
         assert_eq!(five.outcome.answer, Answer::Refused(Refusal::State));
         assert!(five.steps.is_empty() && five.is_sound());
-        let mut run = worked_run(0);
+        let mut run = Run::stored("worked/p01");
         run.instructions = vec![Instruction::incsspq(5, 0); 1025];
         let seven = replay(&run);
         assert_eq!(seven.outcome.answer, Answer::Refused(Refusal::Words));
@@ -302,7 +303,7 @@ mod tests {
 
     #[test]
     fn an_instruction_that_is_sent_back_is_a_step() {
-        let mut run = worked_run(0);
+        let mut run = Run::stored("worked/p01");
         run.instructions[0].length = 16;
         let six = replay(&run);
         assert_eq!(six.steps.len(), 1);

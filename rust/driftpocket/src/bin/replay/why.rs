@@ -3,8 +3,7 @@
 //! This judges nothing. The fault is the library's; here the first step of the
 //! instruction is found that gives one.
 
-use driftpocket::trace::{self, Access};
-use driftpocket::{Fault, Instruction, Kind, PageList, State, Vector};
+use driftpocket::{Fault, Instruction, Kind, PageList, Size, State, Vector};
 
 /// The error code of RET's #CP.
 const NEAR_RET: u64 = 1;
@@ -23,9 +22,9 @@ pub struct Reason {
 pub fn reason(instruction: &Instruction, state: &State, pages: &PageList) -> Option<Reason> {
     let scene = Scene { state, pages };
     match instruction.mnemonic() {
-        "RET" => scene.ret(instruction),
-        "WRUSSD" => scene.wruss(instruction.a, 4),
-        "WRUSSQ" => scene.wruss(instruction.a, 8),
+        "RET" => scene.ret(),
+        "WRUSSD" => scene.wruss(instruction.a, Size::Four),
+        "WRUSSQ" => scene.wruss(instruction.a, Size::Eight),
         _ => None,
     }
 }
@@ -55,15 +54,14 @@ struct Span {
     /// The address of the first.
     first: u64,
     /// How many they are.
-    size: u64,
+    size: Size,
 }
 
 impl Span {
     /// A reason that starts with these bytes.
     fn because(&self, vector: Vector, words: &str) -> Reason {
-        let Span {
-            place, first, size, ..
-        } = self;
+        let Span { place, first, .. } = self;
+        let size = self.size.bytes();
         let words = format!("the {size} bytes at {place} {first:#x}: {words}");
         because(vector, words)
     }
@@ -77,8 +75,11 @@ struct Scene<'run> {
 
 impl Scene<'_> {
     /// The steps of RET.
-    fn ret(&self, instruction: &Instruction) -> Option<Reason> {
-        let size = if self.state.is_long() { 8 } else { 4 };
+    fn ret(&self) -> Option<Reason> {
+        let size = match self.state.is_long() {
+            true => Size::Eight,
+            false => Size::Four,
+        };
         let ordinary = Span {
             place: "ordinary",
             kind: Kind::Ordinary,
@@ -91,17 +92,15 @@ impl Scene<'_> {
             first: self.state.ssp,
             size,
         };
+        let shadow = self.state.is_enabled().then_some(&shadow);
         self.not_popped(&ordinary)
             .or_else(|| self.not_reached(&ordinary))
-            .or_else(|| match self.state.is_enabled() {
-                true => self.not_shadow(&shadow),
-                false => None,
-            })
-            .or_else(|| self.not_returned(instruction))
+            .or_else(|| self.not_shadow(shadow?))
+            .or_else(|| self.not_returned(&ordinary, shadow))
     }
 
     /// The steps of WRUSS.
-    fn wruss(&self, address: u64, size: u64) -> Option<Reason> {
+    fn wruss(&self, address: u64, size: Size) -> Option<Reason> {
         let State { mode, cpl, cet, .. } = *self.state;
         let span = Span {
             place: "user shadow",
@@ -118,7 +117,8 @@ impl Scene<'_> {
         } else if cpl != 0 {
             let words = format!("CPL is {cpl}, and must be 0");
             Some(because(Vector::Protection, words))
-        } else if !address.is_multiple_of(size) {
+        } else if !address.is_multiple_of(size.bytes()) {
+            let size = size.bytes();
             let words = format!("the address {address:#x} is no multiple of {size}");
             Some(because(Vector::Protection, words))
         } else {
@@ -139,7 +139,7 @@ impl Scene<'_> {
         if self.state.is_long() {
             self.not_canonical(span, Vector::Stack)
         } else {
-            let past = span.first.saturating_add(span.size) > 1 << 32;
+            let past = span.first.saturating_add(span.size.bytes()) > 1 << 32;
             past.then(|| span.because(Vector::Stack, "they run past 2^32"))
         }
     }
@@ -173,26 +173,26 @@ impl Scene<'_> {
         Some(reason)
     }
 
-    /// Why a RET does not go where its loaded return address says.
-    fn not_returned(&self, instruction: &Instruction) -> Option<Reason> {
-        let loads = trace::of(instruction, self.state, self.pages)?;
-        let (ordinary, shadow) = (loads.first()?, loads.get(1));
-        match shadow {
-            Some(shadow) if shadow.value != ordinary.value => {
-                let place = |load: &Access, name| {
-                    format!("{:#x} at {name} {:#x}", load.value, load.address)
-                };
-                let words = format!(
-                    "the return addresses differ, {} and {}",
-                    place(ordinary, "ordinary"),
-                    place(shadow, "shadow")
-                );
-                let mut reason = because(Vector::ControlProtection, words);
-                reason.fault.error_code = NEAR_RET;
-                Some(reason)
-            }
-            _ => self.no_target(ordinary.value),
-        }
+    /// Why a RET does not go where its return address says, both of which can be
+    /// loaded.
+    fn not_returned(&self, ordinary: &Span, shadow: Option<&Span>) -> Option<Reason> {
+        let target = self.value(ordinary)?;
+        let other = shadow.filter(|span| self.value(span) != Some(target));
+        let Some(shadow) = other else {
+            return self.no_target(target);
+        };
+        let place = |span: &Span| {
+            let value = self.value(span).unwrap_or_default();
+            format!("{value:#x} at {} {:#x}", span.place, span.first)
+        };
+        let words = format!(
+            "the return addresses differ, {} and {}",
+            place(ordinary),
+            place(shadow)
+        );
+        let mut reason = because(Vector::ControlProtection, words);
+        reason.fault.error_code = NEAR_RET;
+        Some(reason)
     }
 
     /// Why there is nothing to return to.
@@ -211,7 +211,13 @@ impl Scene<'_> {
     /// The addresses of bytes.
     fn bytes(&self, span: &Span) -> impl Iterator<Item = u64> {
         let (first, width) = (span.first, self.state.width());
-        (0..span.size).map(move |step| width.wrap(first.wrapping_add(step)))
+        (0..span.size.bytes()).map(move |step| width.wrap(first.wrapping_add(step)))
+    }
+
+    /// What bytes hold. Their addresses wrap as in mode 2; in mode 1 no return
+    /// address that can be popped goes past 2^32.
+    fn value(&self, span: &Span) -> Option<u64> {
+        self.pages.read(span.first, span.size)
     }
 
     /// The kind of the page that a byte is on.
@@ -225,7 +231,7 @@ impl Scene<'_> {
 #[cfg(test)]
 mod tests {
     use super::*;
-    use driftpocket::{Answer, Size, run};
+    use driftpocket::{Answer, run};
     use std::collections::BTreeSet;
 
     /// Addresses at the edges of everything.

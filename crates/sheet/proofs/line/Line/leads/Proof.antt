@@ -8,7 +8,8 @@ use Rattle.sheet.specs.Digits.{lineFeed}
 use Rattle.sheet.specs.Lines.{fieldCount, fieldForms, begins, first, width}
 use mathlib.Core.Bool.{and-false}
 use borrow.Author.Tests.{not-true, not-false}
-use Rattle.sheet.proofs.Turns.{line-short, line-tested}
+use Rattle.sheet.proofs.LineLaws.{line-short}
+use Rattle.sheet.proofs.Turns.{line-tested}
 use borrow.Author.Needs.{needs}
 use Rattle.sheet.proofs.line.Line.leads.Statement.{statement}
 use Rattle.sheet.proofs.line.Line.leads.Tie as tie

@@ -1,116 +1,143 @@
--- `Line::put` meets its contract: where the line fits, its three pieces stand one behind the other. Assumes nothing.
-use Prim.Native.Nat.{_+_, _-_, _≤_}
+-- `Line::put` meets its contract: with its own count of numbers it is a line of its name. Assumes nothing.
 use mathlib.Core.Path.{_≡_, sym, _∙_}
-use mathlib.Core.Bool.{true}
-use native.Mathlib.Omega.{arith}
 use lib.ListN.{length}
-use borrow.Author.Tests.{not-true, not-false}
-use Rattle.numbers.proofs.Laws.{laid-if}
-use Rattle.sheet.specs.Lines.{fitsLine}
-use Rattle.sheet.proofs.LineLaws.{fields-length}
-use Rattle.sheet.proofs.Turns.{line-kept, line-laid, fits-parts}
+use Rattle.sheet.specs.Lines.{fieldCount}
+use Rattle.sheet.proofs.Turns.{other-count, line-kept, line-told}
 use borrow.Author.Needs.{needs}
 use Rattle.sheet.proofs.line.Line.put.Statement.{statement}
 use Rattle.sheet.proofs.line.Line.put.Tie as tie
 
-fits-requires : tie.Need-fits-requires
-fits-requires c κs = search needs
-
--- the line fits
-fitting : (c : tie.Else1) →
-    let args = c .before .before .before .before .args in
-    fitsLine (args .self) (length (args .values .now)) (length (args .text .now)) (args .at) ≡ true
-fitting c = sym (c .before .fits2 .ensures) ∙ not-false _ (c .if1 .left)
+count-requires : tie.Need-count-requires
+count-requires c κs = search needs
 
 returns : tie.Need-returns
-returns c = let none = sym (c .before .fits2 .ensures) ∙ not-true _ (c .if1 .taken) in (sym none, line-kept _ _ _ _ none)
+returns c =
+    let args = c .before .before .before .before .args in
+    let other : length (args .values .now) ≡ fieldCount (args .self) → ⊥ = λ e. c .if1 .taken (e ∙ sym (c .before .count .ensures)) in
+    (sym (other-count (args .self) (args .values .now) (args .text .now) (args .at) other), sym (line-kept (args .self) (args .values .now) (args .text .now) (args .at) other))
 
-put-name-requires : tie.Need-put-name-requires
-put-name-requires c κs = let parts = fits-parts _ _ _ _ (fitting (c .before)) in omega (arith, parts .1)
+-- as many numbers as the kind has
+own : (c : tie.Else1) → length (c .before .before .before .before .args .values .now) ≡ fieldCount (c .before .before .before .before .args .self)
+own c = c .if1 .left ∙ c .before .count .ensures
 
-first-requires : tie.Need-first-requires
-first-requires c κs = search needs
+enum-told : tie.Need-enum-told
+enum-told c = search needs
 
-sub-put-fields : tie.Need-sub-put-fields
-sub-put-fields c = search needs
+slice-aggregate-put-line : tie.Need-slice-aggregate-put-line
+slice-aggregate-put-line c = search needs
 
-add-put-fields : tie.Need-add-put-fields
-add-put-fields c =
-    let parts = fits-parts _ _ _ _ (fitting (c .before .before .before .before .before .before)) in
-    omega (arith, parts .1, c .first .ensures)
+put-line-requires : tie.Need-put-line-requires
+put-line-requires c κs = search needs
 
-put-fields-requires : tie.Need-put-fields-requires
-put-fields-requires c κs =
-    let after-text = c .before .before .before in
-    let else1 = after-text .before .before .before in
-    let parts = fits-parts _ _ _ _ (fitting else1) in
-    rw (fields-length (else1 .before .before .before .before .args .values .now))
-    (omega (arith, parts .0, parts .1, c .first .ensures, after-text .text .given))
+enum-told-2 : tie.Need-enum-told-2
+enum-told-2 c = search needs
 
-slice-aggregate-copy-bytes : tie.Need-slice-aggregate-copy-bytes
-slice-aggregate-copy-bytes c = search needs
+slice-aggregate-put-line-2 : tie.Need-slice-aggregate-put-line-2
+slice-aggregate-put-line-2 c = search needs
 
-width-requires : tie.Need-width-requires
-width-requires c κs = search needs
+put-line-requires-2 : tie.Need-put-line-requires-2
+put-line-requires-2 c κs = search needs
 
-sub-copy-bytes : tie.Need-sub-copy-bytes
-sub-copy-bytes c = search needs
+enum-told-3 : tie.Need-enum-told-3
+enum-told-3 c = search needs
 
-add-copy-bytes : tie.Need-add-copy-bytes
-add-copy-bytes c =
-    let after-put-fields = c .before .before .before .before .before in
-    let else1 = after-put-fields .before .before .before .before .before .before .before in
-    let parts = fits-parts _ _ _ _ (fitting else1) in
-    omega (arith, parts .1, c .width .ensures)
+slice-aggregate-put-line-3 : tie.Need-slice-aggregate-put-line-3
+slice-aggregate-put-line-3 c = search needs
 
-copy-bytes-requires : tie.Need-copy-bytes-requires
-copy-bytes-requires c κs = search needs
+put-line-requires-3 : tie.Need-put-line-requires-3
+put-line-requires-3 c κs = search needs
+
+enum-told-4 : tie.Need-enum-told-4
+enum-told-4 c = search needs
+
+slice-aggregate-put-line-4 : tie.Need-slice-aggregate-put-line-4
+slice-aggregate-put-line-4 c = search needs
+
+put-line-requires-4 : tie.Need-put-line-requires-4
+put-line-requires-4 c κs = search needs
+
+enum-told-5 : tie.Need-enum-told-5
+enum-told-5 c = search needs
+
+slice-aggregate-put-line-5 : tie.Need-slice-aggregate-put-line-5
+slice-aggregate-put-line-5 c = search needs
+
+put-line-requires-5 : tie.Need-put-line-requires-5
+put-line-requires-5 c κs = search needs
 
 same-length : tie.Need-same-length
 same-length c = search needs
 
 returns-2 : tie.Need-returns-2
 returns-2 c =
-    let after-copy = c .before .before in
-    let after-width = after-copy .before in
-    let after-text2 = after-width .before .before .before .before in
-    let after-put-fields = after-text2 .before in
-    let after-first = after-put-fields .before in
-    let after-text = after-first .before .before .before in
-    let after-put-name = after-text .before in
-    let else1 = after-put-name .before .before in
-    let args = else1 .before .before .before .before .args in
-    let h = fitting else1 in
-    let parts = fits-parts _ _ _ _ h in
-    let kept : length (after-put-fields .put-fields .last .1 .0) ≡ length (args .text .now) = after-text2 .text2 .given ∙ after-text .text .given in
-    let last : args .at + (after-width .width .result - 1) + 1 ≤ length (after-put-fields .put-fields .last .1 .0) = omega (
-      arith,
-      kept,
-      parts .1,
-      after-width .width .ensures,
-    ) in
-    (
-      sym h,
-      after-copy .copy-bytes .ensures .1
-          ∙ laid-if _ _ _ last
-          ∙ rw (after-put-fields .put-fields .ensures, after-put-name .put-name .ensures, after-first .first .ensures, after-width .width .ensures) (line-laid _ _ _ _ h),
-    )
+    let after-put-line = c .before .before in
+    let told = after-put-line .before .before .before in
+    line-told _ _ (told .enum-told .given .1) _ _ _ (own (told .before .before)) _ _ (after-put-line .put-line .ensures .0) (after-put-line .put-line .ensures .1)
+
+same-length-2 : tie.Need-same-length-2
+same-length-2 c = search needs
+
+returns-3 : tie.Need-returns-3
+returns-3 c =
+    let after-put-line = c .before .before in
+    let told = after-put-line .before .before .before in
+    line-told _ _ (told .enum-told2 .given .1) _ _ _ (own (told .before .before)) _ _ (after-put-line .put-line2 .ensures .0) (after-put-line .put-line2 .ensures .1)
+
+same-length-3 : tie.Need-same-length-3
+same-length-3 c = search needs
+
+returns-4 : tie.Need-returns-4
+returns-4 c =
+    let after-put-line = c .before .before in
+    let told = after-put-line .before .before .before in
+    line-told _ _ (told .enum-told3 .given .1) _ _ _ (own (told .before .before)) _ _ (after-put-line .put-line3 .ensures .0) (after-put-line .put-line3 .ensures .1)
+
+same-length-4 : tie.Need-same-length-4
+same-length-4 c = search needs
+
+returns-5 : tie.Need-returns-5
+returns-5 c =
+    let after-put-line = c .before .before in
+    let told = after-put-line .before .before .before in
+    line-told _ _ (told .enum-told4 .given .1) _ _ _ (own (told .before .before)) _ _ (after-put-line .put-line4 .ensures .0) (after-put-line .put-line4 .ensures .1)
+
+same-length-5 : tie.Need-same-length-5
+same-length-5 c = search needs
+
+returns-6 : tie.Need-returns-6
+returns-6 c =
+    let after-put-line = c .before .before in
+    let told = after-put-line .before .before .before in
+    line-told _ _ (told .enum-told5 .given .1) _ _ _ (own (told .before .before)) _ _ (after-put-line .put-line5 .ensures .0) (after-put-line .put-line5 .ensures .1)
 
 pub put-spec : {M : Type 1} → statement M
 put-spec =
     tie.close
     (tie.spec
-    fits-requires
+    count-requires
     returns
-    put-name-requires
-    first-requires
-    sub-put-fields
-    add-put-fields
-    put-fields-requires
-    slice-aggregate-copy-bytes
-    width-requires
-    sub-copy-bytes
-    add-copy-bytes
-    copy-bytes-requires
+    enum-told
+    slice-aggregate-put-line
+    put-line-requires
+    enum-told-2
+    slice-aggregate-put-line-2
+    put-line-requires-2
+    enum-told-3
+    slice-aggregate-put-line-3
+    put-line-requires-3
+    enum-told-4
+    slice-aggregate-put-line-4
+    put-line-requires-4
+    enum-told-5
+    slice-aggregate-put-line-5
+    put-line-requires-5
     same-length
-    returns-2)
+    returns-2
+    same-length-2
+    returns-3
+    same-length-3
+    returns-4
+    same-length-4
+    returns-5
+    same-length-5
+    returns-6)

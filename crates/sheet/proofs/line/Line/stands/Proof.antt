@@ -1,12 +1,13 @@
 -- `Line::stands` meets its contract: it looks at the rest of the text. Assumes nothing.
-use Rattle.sheet.proofs.Turns.{line-none, rest-whole}
+use Rattle.sheet.proofs.LineLaws.{nothing-begins}
+use Rattle.sheet.proofs.Turns.{rest-whole}
 use lib.ListN.{drop-of-length-le}
 use borrow.Author.Needs.{needs}
 use Rattle.sheet.proofs.line.Line.stands.Statement.{statement}
 use Rattle.sheet.proofs.line.Line.stands.Tie as tie
 
 returns : tie.Need-returns
-returns c = rw (drop-of-length-le _ (c .if1 .taken), line-none _)
+returns c = rw (drop-of-length-le _ (c .if1 .taken), nothing-begins _)
 
 sub-leads : tie.Need-sub-leads
 sub-leads c = search needs

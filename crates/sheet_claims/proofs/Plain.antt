@@ -1,0 +1,92 @@
+-- Plain lines, of any kind: printed and read back, and taken and printed again. Assumes nothing.
+use Prim.Native.Nat.{ℕ, zero, suc, _+_, _*_, _/_, _%_, _^_}
+use mathlib.Core.Bool.{Bool, true, false, cond}
+use mathlib.Core.List.{List, [], _∷_, _++_}
+use mathlib.Core.Path.{_≡_, refl, sym, ap, _∙_}
+use native.Mathlib.Nat.{mul-zero, mul-suc, mul-mod-right, div-add-mod, div-eq-of-eq-mul-right}
+use native.Mathlib.Omega.{arith}
+use lib.ListN.{length, take, drop, length-append, length-drop, take-append-drop}
+use lib.Seq.{take-at, drop-at, length-take-le}
+use Rattle.sheet.specs.Digits.{Below}
+use Rattle.sheet.specs.Lines.{fieldCount, line, isLine, values}
+use Rattle.sheet.specs.Sheets.{plainLines, allPlain}
+use Rattle.sheet.specs.Reading.{next, numbers, plainCount}
+use Rattle.sheet.specs.declared.line.Line.{Line}
+use Rattle.sheet.proofs.LineLaws.{is-line-line, values-line, line-values, values-count, some-fields}
+use Rattle.sheet_claims.proofs.Bytes.{below-take, below-drop}
+
+module _ (kind : Line) where
+  abbrev each : ℕ
+  each = fieldCount kind
+
+  -- ---- how many numbers a line takes of them
+
+  one-more : (n : ℕ) {k : ℕ} → each * suc n ≡ k → each * n + each ≡ k
+  one-more n e = sym (mul-suc each n) ∙ e
+
+  -- numbers that fill their lines
+  pub filled : (ns : List ℕ) → length ns % each ≡ 0 → length ns ≡ each * (length ns / each)
+  filled ns whole = let all = div-add-mod (length ns) each in omega arith
+
+  -- ---- printed and read back
+
+  module _ (n : ℕ) (ns : List ℕ) (long : length ns ≡ each * suc n) (small : Below (2 ^ 64) ns) where
+    pub own-long : length (take each ns) ≡ each
+    own-long = let room = one-more n (sym long) in length-take-le each ns (omega arith)
+
+    pub own-small : Below (2 ^ 64) (take each ns)
+    own-small = below-take (2 ^ 64) each ns small
+
+    pub rest-long : length (drop each ns) ≡ each * n
+    rest-long = let room = one-more n (sym long) in rw (length-drop each ns) (omega arith)
+
+    pub rest-small : Below (2 ^ 64) (drop each ns)
+    rest-small = below-drop (2 ^ 64) each ns small
+
+  -- the next of n lines, where there is one
+  pub next-plain : (P : List ℕ → Type 0) (n : ℕ) (ns : List ℕ) → ((vs : List ℕ) → length vs ≡ each → Below (2 ^ 64) vs → P (line kind vs)) → P []
+      → length ns ≡ each * n → Below (2 ^ 64) ns → P (next (plainLines kind n ns))
+  unfolding plainLines
+  next-plain P zero ns one none long small = none
+  next-plain P (suc n) ns one none long small = one (take each ns) (own-long n ns long small) (own-small n ns long small)
+
+  pub plain-read : (n : ℕ) (ns : List ℕ) → length ns ≡ each * n → Below (2 ^ 64) ns
+      → (plainCount kind (plainLines kind n ns) ≡ length (plainLines kind n ns)) × (numbers kind (plainLines kind n ns) ≡ ns)
+  unfolding plainCount plainLines numbers
+  plain-read zero [] long small = (refl, refl)
+  plain-read zero (v ∷ ns) long small = absurd (let none = mul-zero each in omega arith)
+  plain-read (suc n) ns long small =
+      let own = own-long n ns long small in
+      let fits = own-small n ns long small in
+      let after = plain-read n (drop each ns) (rest-long n ns long small) (rest-small n ns long small) in
+      rw (is-line-line kind (take each ns) own fits, values-line kind (take each ns) own fits, after .0, after .1, take-append-drop each ns) (refl, refl)
+
+  -- ---- taken and printed again
+
+  -- the numbers in these lines fill n lines, and print these lines
+  abbrev Prints : ℕ → List (List ℕ) → Type 0
+  Prints n taken = (length (numbers kind taken) ≡ each * n) × (plainLines kind n (numbers kind taken) ≡ taken)
+
+  counted : (ls : List (List ℕ)) → Prints (plainCount kind ls) (take (plainCount kind ls) ls)
+  unfolding plainCount plainLines numbers
+  counted [] = (sym (mul-zero each), refl)
+  counted (l ∷ ls) = go (isLine kind l) refl (counted ls)
+    where
+      go : (t : Bool) → isLine kind l ≡ t → Prints (plainCount kind ls) (take (plainCount kind ls) ls)
+          → Prints (cond t (suc (plainCount kind ls)) 0) (take (cond t (suc (plainCount kind ls)) 0) (l ∷ ls))
+      go true e after =
+          let own = values-count kind l in
+          let rest : List ℕ = numbers kind (take (plainCount kind ls) ls) in (
+            rw (length-append, own, after .0, mul-suc) (omega arith),
+            rw (take-at (values kind l) rest each own, drop-at (values kind l) rest each own, line-values kind l e, after .1),
+          )
+      go false e after = (sym (mul-zero each), refl)
+
+  -- all lines that the stage takes
+  pub plain-taken : (ls : List (List ℕ)) → allPlain kind (numbers kind (take (plainCount kind ls) ls)) ≡ take (plainCount kind ls) ls
+  plain-taken ls =
+      let n : length (numbers kind (take (plainCount kind ls) ls)) / each ≡ plainCount kind ls = div-eq-of-eq-mul-right (some-fields kind) (counted ls .0) in
+      rw n (counted ls .1)
+
+  pub plain-whole : (ls : List (List ℕ)) → length (numbers kind (take (plainCount kind ls) ls)) % each ≡ 0
+  plain-whole ls = rw (counted ls .0) (mul-mod-right each (plainCount kind ls))
