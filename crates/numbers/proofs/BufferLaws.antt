@@ -44,6 +44,11 @@ pub laid-unless : (out : List ℕ) (at : ℕ) (piece : List ℕ) → inside (len
 unfolding laidIf
 laid-unless out at piece over = rw over
 
+-- the piece stands at the front
+pub laid-front : (out piece : List ℕ) (n : ℕ) → length piece ≡ n → take n (laid out 0 piece) ≡ piece
+unfolding laid
+laid-front out piece n long = take-at piece (drop (0 + length piece) out) n long
+
 -- a buffer of the same length holds the piece and nothing else
 pub laid-whole : (words buffer : List ℕ) → length buffer ≡ length words → laid buffer 0 words ≡ words
 unfolding laid

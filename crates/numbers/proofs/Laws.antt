@@ -8,11 +8,11 @@
 --     put-inside                       and what a store leaves
 --     little-length, put-laid          a number's bytes as a piece
 --     laid-if, laid-unless             a piece that has room, or has not
---     length-laid, laid-nil, laid-turn, laid-whole     pieces, one behind the other
+--     length-laid, laid-nil, laid-turn, laid-front, laid-whole     pieces, one behind the other
 --     set-laid, laid-start, laid-end, laid-cons, laid-element, laid-last     and element by element
 -- Assumes nothing.
 
 pub use Rattle.numbers.proofs.Bytes.{at-least-four, at-most-eight, number-drop, number-below, little-length}
 pub use Rattle.numbers.proofs.Bytes.{room-left, lies-inside, ends-inside, held-number, held-there, put-inside}
-pub use Rattle.numbers.proofs.BufferLaws.{length-laid, laid-nil, laid-turn, laid-if, laid-unless, laid-whole, put-laid}
+pub use Rattle.numbers.proofs.BufferLaws.{length-laid, laid-nil, laid-turn, laid-if, laid-unless, laid-front, laid-whole, put-laid}
 pub use Rattle.numbers.proofs.BufferLaws.{set-laid, laid-start, laid-end, laid-cons, laid-element, laid-last}

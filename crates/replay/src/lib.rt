@@ -8,6 +8,7 @@ pub use processor::good_state;
 pub use processor::state_of;
 pub use runs::Replay;
 pub use runs::run;
+pub use steps::INSTRUCTION_LIMIT;
 pub use steps::Tested;
 pub use steps::check;
 pub use steps::step;

@@ -1,0 +1,83 @@
+-- The run that is left is not refused, and its sheet has room. Assumes nothing.
+use Prim.Native.Nat.{ℕ, _*_, _-_, _/_, _≤_}
+use mathlib.Core.Path.{_≡_, refl, ap, _∙_}
+use mathlib.Core.List.{List}
+use native.Mathlib.Omega.{arith}
+use lib.ListN.{length, take, drop, length-drop}
+use lib.Seq.{take-all}
+use borrow.Author.Tests.{le-leb}
+use Rattle.numbers.specs.Buffers.{laid}
+use Rattle.numbers.proofs.Laws.{laid-front, length-laid}
+use Rattle.processor.specs.State.{inRange}
+use Rattle.processor.specs.Layout.{stateOf, goodState, wordsOf}
+use Rattle.processor.specs.declared.state.State.{State}
+use Rattle.replay.specs.Run.{Run, inputOf, checkBy, replayed}
+use Rattle.replay.specs.declared.steps.Tested.the-variants.{Passed}
+use Rattle.claims.proofs.RangesProof.{run-stays-in-range}
+use Rattle.sheet.specs.Sheets.{savedOf, text}
+use Rattle.sheet.proofs.TestedLaws.{passes, passed}
+use Rattle.sheet_write.specs.Laying.{textLength}
+use Rattle.sheet_write.specs.Writes.{Written, printed, writes}
+use Rattle.sheet_write.specs.declared.text.Writing.{Writing}
+use Rattle.sheet_write.specs.declared.text.Writing.the-variants.{Done, Refused, TooLong}
+use Rattle.sheet_write.proofs.Sizes.{nonzeros-most, text-size}
+use Rattle.outcome.specs.Outcome.{textLimit}
+
+-- ---- writing it
+
+-- what a writer's answer says of a text and of its buffer, where only one answer can be
+abbrev pub PutBy : Writing → List ℕ → List ℕ → Type 0
+PutBy (Done long) whole after = (long ≤ length after) × (take long after ≡ whole)
+PutBy (Refused refusal) whole after = ⊥
+PutBy (TooLong long) whole after = ⊥
+
+module _ (state : State) (pages bytes words : List ℕ) (pass : checkBy pages (length bytes) (inRange state) (length words) ≡ Passed) where
+  text-room : length (text (savedOf (wordsOf state) pages bytes words)) ≤ textLimit
+  unfolding textLength
+  text-room =
+      let p = passes pages (length bytes) (inRange state) (length words) pass in
+      let size = text-size (wordsOf state) pages bytes words refl (p .list .whole) in
+      let most = nonzeros-most (length bytes / 8) bytes in
+      omega arith
+
+  pub left-put : (out : List ℕ) → textLimit ≤ length out → (answer : Writing) (after : List ℕ)
+      → record { answer = answer; text = after } ≡ writes (wordsOf state) pages bytes words out
+      → PutBy answer (text (savedOf (wordsOf state) pages bytes words)) after
+  unfolding writes printed goodState stateOf
+  left-put out room answer after e =
+      let whole : List ℕ = text (savedOf (wordsOf state) pages bytes words) in
+      let fits : length whole ≤ length out = omega (arith, text-room) in
+      let done : _≡_ {A = Written} (record { answer = answer; text = after }) (record { answer = Done (length whole); text = laid out 0 whole }) =
+      e ∙ rw (pass, le-leb (length whole) (length out) fits)
+      in
+      let now = ap (λ (w : Written). w .text) done in
+      rw (ap (λ (w : Written). w .answer) done) (
+        rw (now, length-laid out 0 whole (omega arith)) fits,
+        rw now (laid-front out whole (length whole) refl),
+      )
+
+-- ---- what a run leaves
+
+pub left-passes : (start : State) (pages bytes words : List ℕ) → checkBy pages (length bytes) (inRange start) (length words) ≡ Passed
+    → (r : Run) → r ≡ replayed (inputOf start pages bytes words)
+    → (after rest : List ℕ) → length after ≡ length bytes → rest ≡ drop (4 * r .count) words
+    → checkBy pages (length after) (inRange (r .state)) (length rest) ≡ Passed
+left-passes start pages bytes words pass r e after rest same left =
+    let p = passes pages (length bytes) (inRange start) (length words) pass in
+    let fewer = ap length left ∙ length-drop (4 * r .count) words in
+    rw same (
+    passed pages (length bytes) (inRange (r .state)) (length rest)
+    (record {
+      list = p .list;
+      state = rw e (run-stays-in-range (inputOf start pages bytes words) (p .state));
+      whole = omega arith;
+      few = omega arith;
+    })
+    )
+
+-- the words that are left, as the code has them
+pub left-words : (words : List ℕ) (done count : ℕ) → ((list : List ℕ) → length list ≡ length words → drop done list ≡ drop (4 * count) list)
+    → take (length words - done) (drop done words) ≡ drop (4 * count) words
+left-words words done count same =
+    let few : length (drop done words) ≤ length words - done = rw (length-drop done words) (omega arith) in
+    take-all (length words - done) (drop done words) few ∙ same words refl

@@ -1,0 +1,118 @@
+-- What reading a text into the program's buffers says of its outcome. Assumes nothing.
+use Prim.Native.Nat.{ℕ, _*_, _≤_}
+use mathlib.Core.Path.{_≡_, refl, sym, _∙_}
+use mathlib.Core.Bool.{Bool, true, false, cond}
+use mathlib.Core.List.{List}
+use native.Mathlib.Omega.{arith}
+use lib.ListN.{length, take, drop}
+use lib.Dec.{eqb}
+use borrow.Author.Tests.{le-leb, le-ltb, eq-eqb}
+use Rattle.numbers.proofs.Laws.{laid-front, laid-whole, length-laid}
+use Rattle.pages.specs.Pages.{pageLimit, pageBytes}
+use Rattle.answers.specs.Answer.{refusalNumber, sheetNumber}
+use Rattle.processor.specs.State.{inRange}
+use Rattle.processor.specs.Layout.{fields, stateOf, formed}
+use Rattle.processor.specs.declared.layout.Formed.the-variants.{NoState}
+use Rattle.processor.proofs.Layouts.{formed-none}
+use Rattle.instructions.specs.Instruction.{instructionWords}
+use Rattle.replay.specs.Run.{instructionLimit, inputOf, checkBy}
+use Rattle.replay.specs.declared.steps.Tested.{Tested}
+use Rattle.replay.specs.declared.steps.Tested.the-variants.{Passed, Failed}
+use Rattle.sheet.specs.Lines.{isLine, values, lines}
+use Rattle.sheet.specs.Sheets.{Saved, Page, entriesOf, bytesOf, version}
+use Rattle.sheet.specs.Reading.{Parsed, sheet, noSheet, next, value, stages, parsedBody, parsedBy, parsedLines, parsed}
+use Rattle.sheet.specs.declared.line.Line.the-variants.{Sheet, State as StateLine}
+use Rattle.sheet.proofs.LineLaws.{values-count}
+use Rattle.sheet.proofs.TestedLaws.{passes}
+use Rattle.sheet_read.specs.Reads.{Buffers, Read, tested, sizesOf, fits, filled, byTest as readByTest, byText as readByText, reads}
+use Rattle.sheet_read.specs.declared.buffers.Sizes.{Sizes}
+use Rattle.sheet_read.specs.declared.buffers.Reading.{Reading}
+use Rattle.sheet_read.specs.declared.buffers.Reading.the-variants.{Done, NoSheet, Refused, TooLong}
+use Rattle.outcome.specs.Outcome.{refusedLine, answered, textLimit, outcome}
+
+-- ---- a state that was read
+
+only-sheet : (a b c d : Bool) (s : Saved) (state : List ℕ) (pages : List Page) (words : List ℕ) (row : ℕ)
+    → cond a (cond b (cond c (cond d (sheet (record { state = state; pages = pages; words = words })) (noSheet row)) (noSheet 2)) (noSheet 1)) (noSheet 1) ≡ sheet s
+    → s .state ≡ state
+only-sheet true true true true s state pages words row e = cc
+only-sheet true true true false s state pages words row e = let z : _≡_ {A = ℕ} 0 1 = cc in absurd (omega arith)
+only-sheet true true false d s state pages words row e = let z : _≡_ {A = ℕ} 0 1 = cc in absurd (omega arith)
+only-sheet true false c d s state pages words row e = let z : _≡_ {A = ℕ} 0 1 = cc in absurd (omega arith)
+only-sheet false b c d s state pages words row e = let z : _≡_ {A = ℕ} 0 1 = cc in absurd (omega arith)
+
+-- it has its ten fields
+parsed-fields : (t : List ℕ) (s : Saved) → parsed t ≡ sheet s → length (s .state) ≡ fields
+unfolding parsed parsedLines parsedBy parsedBody
+parsed-fields t s e =
+    let ls : List (List ℕ) = lines t in
+    let rest : List (List ℕ) = drop 1 ls in
+    let same = only-sheet (isLine Sheet (next ls)) (eqb (value Sheet 0 (next ls)) version) (isLine StateLine (next rest)) (eqb (length (stages (drop 1 rest) .left)) 0)
+    s (values StateLine (next rest)) (stages (drop 1 rest) .pages) (stages (drop 1 rest) .words) _ e in
+    rw same (values-count StateLine (next rest))
+
+-- ---- the buffers
+
+-- room for a state, the pages with their bytes, and the instructions
+pub record Roomy (lent : Buffers) : Type 0 where
+  pub state : length (lent .state) ≡ fields
+  pub pages : length (lent .pages) ≡ pageLimit
+  pub bytes : length (lent .bytes) ≡ pageLimit * pageBytes
+  pub words : length (lent .words) ≡ instructionLimit * instructionWords
+
+-- what they hold of a sheet that is run
+pub record Ready (t : List ℕ) (sizes : Sizes) (b : Buffers) : Type 0 where
+  pub pages-in : sizes .pages ≤ length (b .pages)
+  pub bytes-in : sizes .bytes ≤ length (b .bytes)
+  pub words-in : sizes .words ≤ length (b .words)
+  pub ten : length (b .state) ≡ fields
+  pub pass : checkBy (take (sizes .pages) (b .pages)) (length (take (sizes .bytes) (b .bytes))) (inRange (stateOf (b .state))) (length (take (sizes .words) (b .words))) ≡ Passed
+  pub same : answered (inputOf (stateOf (b .state)) (take (sizes .pages) (b .pages)) (take (sizes .bytes) (b .bytes)) (take (sizes .words) (b .words))) ≡ outcome t
+
+-- what a reader's answer says of the outcome
+abbrev pub Told : List ℕ → Reading → Buffers → Type 0
+Told t (Done sizes) b = Ready t sizes b
+Told t (NoSheet row) b = refusedLine sheetNumber row ≡ outcome t
+Told t (Refused refusal) b = refusedLine (refusalNumber refusal) 0 ≡ outcome t
+Told t (TooLong sizes) b = ⊥
+
+module _ (t : List ℕ) (short : length t ≤ textLimit) (lent : Buffers) (roomy : Roomy lent) where
+  module _ (s : Saved) (e : parsed t ≡ sheet s) (q : tested s ≡ Passed) where
+    ready : (fits s lent ≡ true) × Ready t (sizesOf s) (filled s lent)
+    unfolding tested sizesOf fits filled outcome
+    ready =
+        let p = passes (entriesOf (s .pages)) (length (bytesOf (s .pages))) (inRange (stateOf (s .state))) (length (s .words)) q in
+        let ten = parsed-fields t s e in
+        let pages-fit : length (entriesOf (s .pages)) ≤ length (lent .pages) = omega arith in
+        let bytes-fit : length (bytesOf (s .pages)) ≤ length (lent .bytes) = omega arith in
+        let words-fit : length (s .words) ≤ length (lent .words) = omega arith in
+        let state = laid-whole (s .state) (lent .state) (roomy .state ∙ sym ten) in
+        let pages = laid-front (lent .pages) (entriesOf (s .pages)) (length (entriesOf (s .pages))) refl in
+        let bytes = laid-front (lent .bytes) (bytesOf (s .pages)) (length (bytesOf (s .pages))) refl in
+        let words = laid-front (lent .words) (s .words) (length (s .words)) refl in (
+          rw (le-leb (length (s .state)) (length (lent .state)) (omega arith), le-leb _ _ pages-fit, le-leb _ _ bytes-fit, le-leb _ _ words-fit),
+          record {
+            pages-in = rw (length-laid (lent .pages) 0 (entriesOf (s .pages)) (omega arith)) pages-fit;
+            bytes-in = rw (length-laid (lent .bytes) 0 (bytesOf (s .pages)) (omega arith)) bytes-fit;
+            words-in = rw (length-laid (lent .words) 0 (s .words) (omega arith)) words-fit;
+            ten = rw state ten;
+            pass = rw (state, pages, bytes, words) q;
+            same = rw (state, pages, bytes, words, le-ltb textLimit (length t) short, e, q);
+          },
+        )
+
+  pub told : (r : Read) → r ≡ reads t lent → Told t (r .answer) (r .buffers)
+  unfolding reads outcome
+  told r came = rw came (by-text (parsed t) refl)
+    where
+      by-test : (s : Saved) → parsed t ≡ sheet s → (found : Tested) → tested s ≡ found → Told t (readByTest found s lent .answer) (readByTest found s lent .buffers)
+      by-test s e Passed q = rw (ready s e q .0) (ready s e q .1)
+      by-test s e (Failed refusal) q = rw (le-ltb textLimit (length t) short, e, q)
+
+      by-text : (p : Parsed) → parsed t ≡ p → Told t (readByText p lent .answer) (readByText p lent .buffers)
+      by-text (sheet s) e = by-test s e (tested s) refl
+      by-text (noSheet row) e = rw (le-ltb textLimit (length t) short, e)
+
+-- ten words make a state
+pub no-state-never : (words : List ℕ) → length words ≡ fields → formed words ≡ NoState → ⊥
+no-state-never words ten none = let off : false ≡ true = sym (formed-none words none) ∙ eq-eqb _ _ ten in let z : _≡_ {A = ℕ} 0 1 = cc in omega arith

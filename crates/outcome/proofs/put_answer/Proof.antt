@@ -1,0 +1,38 @@
+-- `put_answer` meets its contract. Assumes nothing.
+use borrow.Author.Needs.{needs}
+use Rattle.outcome.specs.Outcome.{answerLine}
+use Rattle.outcome.proofs.put_answer.Statement.{statement}
+use Rattle.outcome.proofs.put_answer.Tie as tie
+
+report-requires : tie.Need-report-requires
+report-requires c κs = search needs
+
+slice-aggregate-put-line : tie.Need-slice-aggregate-put-line
+slice-aggregate-put-line c = search needs
+
+slice-aggregate-put-line-2 : tie.Need-slice-aggregate-put-line-2
+slice-aggregate-put-line-2 c = search needs
+
+put-line-requires : tie.Need-put-line-requires
+put-line-requires c κs = search needs
+
+same-length : tie.Need-same-length
+same-length c = search needs
+
+returns : tie.Need-returns
+unfolding answerLine
+returns c =
+    let after-put-line = c .before .before in
+    let after-report = after-put-line .before .before .before .before in
+    (after-put-line .put-line .ensures .0, rw (← after-report .report .ensures) (after-put-line .put-line .ensures .1))
+
+pub put-answer-spec : {M : Type 1} → statement M
+put-answer-spec =
+    tie.close
+    (tie.spec
+    report-requires
+    slice-aggregate-put-line
+    slice-aggregate-put-line-2
+    put-line-requires
+    same-length
+    returns)

@@ -1,0 +1,77 @@
+-- What the program writes for a text (docs/RULES.md, "The outcome of a sheet"). Assumes nothing.
+use Prim.Native.Nat.{ℕ, _*_}
+use mathlib.Core.Bool.{cond}
+use mathlib.Core.List.{List, [], _∷_, _++_}
+use lib.ListN.{length, drop}
+use lib.Dec.{ltb}
+use Rattle.answers.specs.Answer.{refusalNumber, roomNumber, sheetNumber, reportOf}
+use Rattle.answers.specs.declared.answer.Answer.{Answer}
+use Rattle.answers.specs.declared.answer.Report.{Report}
+use Rattle.processor.specs.Layout.{stateOf, wordsOf}
+use Rattle.instructions.specs.Instruction.{instructionWords}
+use Rattle.replay.specs.Run.{Input, inputOf, Run, replayed}
+use Rattle.replay.specs.declared.steps.Tested.{Tested}
+use Rattle.replay.specs.declared.steps.Tested.the-variants.{Passed, Failed}
+use Rattle.sheet.specs.Digits.{lineFeed}
+use Rattle.sheet.specs.Lines.{fields}
+use Rattle.sheet.specs.Sheets.{Saved, savedOf, entriesOf, bytesOf, text}
+use Rattle.sheet.specs.Reading.{Parsed, sheet, noSheet, parsed}
+use Rattle.sheet_read.specs.Reads.{tested}
+
+-- ---- lines that no sheet has
+
+-- a word, numbers behind tabs, a line feed
+unfoldable pub lineOf : List ℕ → List ℕ → List ℕ
+lineOf word values = word ++ (fields values ++ (lineFeed ∷ []))
+
+-- "answer" and "refused"
+abbrev pub answerWord : List ℕ
+answerWord = 97 ∷ 110 ∷ 115 ∷ 119 ∷ 101 ∷ 114 ∷ []
+
+abbrev pub refusedWord : List ℕ
+refusedWord = 114 ∷ 101 ∷ 102 ∷ 117 ∷ 115 ∷ 101 ∷ 100 ∷ []
+
+-- how a run ended: count, refusal, vector, error code, address
+abbrev pub answerNumbers : ℕ → Report → List ℕ
+answerNumbers count report = count ∷ report .refusal ∷ report .vector ∷ report .code ∷ report .address ∷ []
+
+unfoldable pub answerLine : ℕ → Answer → List ℕ
+answerLine count answer = lineOf answerWord (answerNumbers count (reportOf answer))
+
+-- a text that is not run: the refusal, and the line of refusal 9 or 0
+unfoldable pub refusedLine : ℕ → ℕ → List ℕ
+refusedLine refusal row = lineOf refusedWord (refusal ∷ row ∷ [])
+
+-- ---- a run
+
+-- the run that a sheet says
+abbrev pub inputFrom : Saved → Input
+inputFrom s = inputOf (stateOf (s .state)) (entriesOf (s .pages)) (bytesOf (s .pages)) (s .words)
+
+-- the run that is left: state and pages as the completed instructions left them, and the instructions that did not complete
+abbrev pub leftOf : Input → Run → Saved
+leftOf given r = savedOf (wordsOf (r .state)) (given .pages) (r .bytes) (drop (instructionWords * r .count) (given .words))
+
+-- the answer, and the sheet of what is left
+unfoldable pub answered : Input → List ℕ
+answered given = answerLine (replayed given .count) (replayed given .answer) ++ text (leftOf given (replayed given))
+
+-- ---- any text
+
+-- refusals 1, 2, 3, 5 and 7, or the run
+abbrev pub byTest : Tested → Saved → List ℕ
+byTest Passed s = answered (inputFrom s)
+byTest (Failed refusal) s = refusedLine (refusalNumber refusal) 0
+
+-- refusal 9 before them
+abbrev pub byText : Parsed → List ℕ
+byText (sheet s) = byTest (tested s) s
+byText (noSheet row) = refusedLine sheetNumber row
+
+-- the longest text that is read
+abbrev pub textLimit : ℕ
+textLimit = 413250
+
+-- what is written: a longer text is refusal 8, whatever it holds
+unfoldable pub outcome : List ℕ → List ℕ
+outcome t = cond (ltb textLimit (length t)) (refusedLine roomNumber 0) (byText (parsed t))
