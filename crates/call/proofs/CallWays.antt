@@ -9,7 +9,7 @@ use Rattle.accesses.specs.declared.access.Access.{Access}
 use Rattle.accesses.specs.declared.reach.Failure.{Failure}
 use Rattle.stores.specs.Stores.{tryAll, writtenAll}
 use Rattle.stores.specs.declared.Slot.{Slot}
-use Rattle.stores.specs.declared.Slot.the-variants.{Empty, Store}
+use Rattle.stores.specs.declared.Slot.the-variants.{End, Store}
 use Rattle.stores.specs.declared.Stored.the-variants.{AllStored, NoneStored}
 use Rattle.answers.specs.Answer.{ss, gp}
 use Rattle.processor.specs.State.{minus, next}
@@ -31,11 +31,11 @@ newSp s = minus s (s .sp) (byteCount (pushed s))
 -- the pushes as the code has them: on the ordinary stack, and on the shadow stack if the call makes a frame there
 abbrev pub pushes : Bool → ℕ → State → List Slot
 pushes framed span s =
-    Store (ordinary s (newSp s) (pushed s) true) (next s span) ∷ frameOf s framed (next s span) .slot ∷ Empty ∷ Empty ∷ Empty ∷ Empty ∷ Empty ∷ Empty ∷ []
+    Store (ordinary s (newSp s) (pushed s) true) (next s span) ∷ frameOf s framed (next s span) .slot ∷ End ∷ End ∷ End ∷ End ∷ End ∷ End ∷ []
 
 -- a store and a conditional one, as a list
 as-list : (look : Lookup) (bytes : List ℕ) {A : Type 0} (a : Access) (u : ℕ) (t : Bool) (b : Access) (v : ℕ) (rest : List Slot) (p : Prog A)
-    → interp look (store a u >> (onlyIf t (store b v) >> p)) bytes ≡ interp look (putAll (Store a u ∷ cond t (Store b v) Empty ∷ Empty ∷ rest) >> p) bytes
+    → interp look (store a u >> (onlyIf t (store b v) >> p)) bytes ≡ interp look (putAll (Store a u ∷ cond t (Store b v) End ∷ End ∷ rest) >> p) bytes
 unfolding _>>=_ putAll
 as-list look bytes a u true b v rest p = refl
 as-list look bytes a u false b v rest p = refl

@@ -2,7 +2,7 @@
 use Prim.Native.Nat.{ℕ}
 use mathlib.Core.Bool.{Bool, true, cond}
 use Rattle.numbers.specs.Numbers.{byteCount}
-use Rattle.stores.specs.declared.Slot.the-variants.{Empty, Store}
+use Rattle.stores.specs.declared.Slot.the-variants.{End, Store}
 use Rattle.processor.specs.State.{minus}
 use Rattle.processor.specs.Accesses.{shadow}
 use Rattle.processor.specs.declared.state.State.{State}
@@ -17,6 +17,6 @@ newSsp s = minus s (s .ssp) (byteCount (pushed s))
 -- the push, if there is one, and SSP after the call
 unfoldable pub frameOf : State → Bool → ℕ → Frame
 frameOf s framed next = record {
-  slot = cond (pushesFrame s framed) (Store (shadow s (newSsp s) (pushed s) true) next) Empty;
+  slot = cond (pushesFrame s framed) (Store (shadow s (newSsp s) (pushed s) true) next) End;
   ssp = cond (pushesFrame s framed) (newSsp s) (s .ssp);
 }

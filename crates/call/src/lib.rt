@@ -34,7 +34,7 @@ fn make_frame(state: State, framed: bool, next: u64) -> Frame
 {
     if !pushes_frame(state, framed) {
         return Frame {
-            slot: Slot::Empty,
+            slot: Slot::End,
             ssp: state.ssp,
         };
     }
@@ -69,7 +69,7 @@ pub fn execute(
     let next = state.next(span);
     let frame = make_frame(state, framed, next);
     let slot = frame.slot;
-    let mut slots = [Slot::Empty; SLOTS];
+    let mut slots = [Slot::End; SLOTS];
     slots[0] = Slot::Store(state.ordinary(sp, size, true), next);
     slots[1] = slot;
     match stores::store_all(slots, pages, bytes) {

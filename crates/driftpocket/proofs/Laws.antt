@@ -41,7 +41,7 @@ elements-rest words i (suc n) e = rw (drop-cons words i 0 (omega arith), element
 -- a state made of ten words has these words
 pub same-words : (words : List ℕ) → length words ≡ fields → wordsOf (stateOf words) ≡ words
 unfolding stateOf elements
-same-words words ten = elements-rest words 0 10 (omega arith)
+same-words words ten = elements-rest words 0 fields (omega arith)
 
 -- a buffer of ten words holds the words of the state that is written there
 pub written-words : (state : List ℕ) (start s : State) → formed state ≡ Whole start → laidIf state 0 (wordsOf s) ≡ wordsOf s

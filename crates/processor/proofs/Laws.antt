@@ -27,7 +27,7 @@ use Rattle.accesses.specs.declared.load.Loaded.the-variants.{Value, Blocked as 
 use Rattle.memory.proofs.Laws.{loaded-value, loaded-failure}
 use Rattle.stores.specs.Stores.{thenTry, tryAll, writtenAll}
 use Rattle.stores.specs.declared.Slot.{Slot}
-use Rattle.stores.specs.declared.Slot.the-variants.{Empty, Store}
+use Rattle.stores.specs.declared.Slot.the-variants.{End, Store}
 use Rattle.stores.specs.declared.Stored.{Stored}
 use Rattle.stores.specs.declared.Stored.the-variants.{AllStored, NoneStored}
 use Rattle.answers.specs.Blame.{blame}
@@ -120,7 +120,7 @@ module _ (look : Lookup) {A B : Type 0} (f : A → Prog B) where
 -- the stores of a list, one after the other
 unfoldable pub putAll : List Slot → Prog (Unit {0})
 putAll [] = done tt
-putAll (Empty ∷ rest) = done tt
+putAll (End ∷ rest) = done tt
 putAll (Store a v ∷ rest) = put a v (putAll rest)
 
 -- how a program ends that begins with stores, by what trying them found
@@ -132,7 +132,7 @@ module _ (look : Lookup) {A : Type 0} (p : Prog A) where
   all-tried : (slots : List Slot) (bytes : List ℕ) → interp look (putAll slots >> p) bytes ≡ onStored (tryAll look slots) (interp look p (writtenAll look slots bytes))
   unfolding _>>=_ interp putAll onStored tryAll writtenAll
   all-tried [] bytes = refl
-  all-tried (Empty ∷ rest) bytes = refl
+  all-tried (End ∷ rest) bytes = refl
   all-tried (Store a v ∷ rest) bytes = go (probe look a) (tryAll look rest) (interp look p (writtenAll look rest (written look a v bytes))) (all-tried rest (written look a v bytes))
     where
       go : (r : Reach) (later : Stored) {before : Result A} (after : Result A) → before ≡ onStored later after → onReach a r before ≡ onStored (thenTry a r later) after

@@ -13,7 +13,7 @@ use Rattle.numbers.specs.declared.size.Size.the-variants.{Four, Eight}
 use Rattle.accesses.specs.declared.load.Loaded.the-variants.{Value, Blocked as Unloaded}
 use Rattle.stores.specs.Stores.{tryAll, writtenAll}
 use Rattle.stores.specs.declared.Slot.{Slot}
-use Rattle.stores.specs.declared.Slot.the-variants.{Empty, Store}
+use Rattle.stores.specs.declared.Slot.the-variants.{End, Store}
 use Rattle.stores.specs.declared.Stored.the-variants.{AllStored, NoneStored}
 use Rattle.answers.specs.Answer.{ud, gp}
 use Rattle.processor.specs.State.{isLong, longBit, usable, plus, minus, next}
@@ -62,7 +62,7 @@ abbrev pub leftStores : ℕ → State → List Slot
 leftStores token s =
     Store (shadow s (minus s (multiple 4 token) 4) Four true) 0
     ∷ Store (shadow s (minus s (multiple 8 (multiple 4 token)) 8) Eight true) (multiple 4 token + longBit s)
-    ∷ Empty ∷ Empty ∷ Empty ∷ Empty ∷ Empty ∷ Empty ∷ []
+    ∷ End ∷ End ∷ End ∷ End ∷ End ∷ End ∷ []
 
 module _ (look : Lookup) (bytes : List ℕ) (token span : ℕ) (s : State) where
   pub top-failed : (fault : Fault) → interp look (newTop s (plus s (s .ssp) 8)) bytes ≡ broken fault → operate look (leaveToken token span s) s bytes ≡ stepOf (faulted s fault) bytes

@@ -79,7 +79,7 @@ fn leave_token(state: State, pages: &[u64], bytes: &mut [u8], token: u64, span: 
             let hole = state.shadow(state.minus(old, 4), Size::Four, true);
             let below = state.shadow(state.minus(old - old % 8, 8), Size::Eight, true);
             let restore = old + state.long_bit();
-            let mut slots = [Slot::Empty; SLOTS];
+            let mut slots = [Slot::End; SLOTS];
             slots[0] = Slot::Store(hole, 0);
             slots[1] = Slot::Store(below, restore);
             match stores::store_all(slots, pages, bytes) {

@@ -39,7 +39,7 @@ zeros (suc n) = below-cons (2 ^ 64) 0 (replicate n 0) (omega arith) (zeros n)
 
 -- a sheet with nothing in it
 blank : Saved
-blank = record { state = replicate 10 0; pages = []; words = [] }
+blank = record { state = replicate (fieldCount State) 0; pages = []; words = [] }
 
 blank-sheeted : Sheeted blank
 unfolding blank Ascending WholePages

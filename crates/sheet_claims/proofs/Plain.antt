@@ -43,23 +43,37 @@ module _ (kind : Line) where
     pub rest-small : Below (2 ^ 64) (drop each ns)
     rest-small = below-drop (2 ^ 64) each ns small
 
-  -- the next of n lines, where there is one
-  pub next-plain : (P : List ℕ → Type 0) (n : ℕ) (ns : List ℕ) → ((vs : List ℕ) → length vs ≡ each → Below (2 ^ 64) vs → P (line kind vs)) → P []
-      → length ns ≡ each * n → Below (2 ^ 64) ns → P (next (plainLines kind n ns))
+  -- the next of n lines and others
+  pub next-plain : (P : List ℕ → Type 0) (n : ℕ) (ns : List ℕ) (rest : List (List ℕ)) → ((vs : List ℕ) → length vs ≡ each → Below (2 ^ 64) vs → P (line kind vs)) → P (next rest)
+      → length ns ≡ each * n → Below (2 ^ 64) ns → P (next (plainLines kind n ns ++ rest))
   unfolding plainLines
-  next-plain P zero ns one none long small = none
-  next-plain P (suc n) ns one none long small = one (take each ns) (own-long n ns long small) (own-small n ns long small)
+  next-plain P zero ns rest one last long small = last
+  next-plain P (suc n) ns rest one last long small = one (take each ns) (own-long n ns long small) (own-small n ns long small)
 
-  pub plain-read : (n : ℕ) (ns : List ℕ) → length ns ≡ each * n → Below (2 ^ 64) ns
-      → (plainCount kind (plainLines kind n ns) ≡ length (plainLines kind n ns)) × (numbers kind (plainLines kind n ns) ≡ ns)
-  unfolding plainCount plainLines numbers
-  plain-read zero [] long small = (refl, refl)
+  no-plain : (rest : List (List ℕ)) → isLine kind (next rest) ≡ false → plainCount kind rest ≡ 0
+  unfolding plainCount
+  no-plain [] other = refl
+  no-plain (l ∷ rest) other = rw other
+
+  -- all are counted, and no more, before lines of which the first is of another kind
+  pub plain-counted : (n : ℕ) (ns : List ℕ) (rest : List (List ℕ)) → length ns ≡ each * n → Below (2 ^ 64) ns → isLine kind (next rest) ≡ false
+      → plainCount kind (plainLines kind n ns ++ rest) ≡ length (plainLines kind n ns)
+  unfolding plainCount plainLines
+  plain-counted zero ns rest long small other = no-plain rest other
+  plain-counted (suc n) ns rest long small other =
+      rw (is-line-line kind (take each ns) (own-long n ns long small) (own-small n ns long small))
+      (ap suc (plain-counted n (drop each ns) rest (rest-long n ns long small) (rest-small n ns long small) other))
+
+  pub plain-read : (n : ℕ) (ns : List ℕ) → length ns ≡ each * n → Below (2 ^ 64) ns → numbers kind (plainLines kind n ns) ≡ ns
+  unfolding plainLines numbers
+  plain-read zero [] long small = refl
   plain-read zero (v ∷ ns) long small = absurd (let none = mul-zero each in omega arith)
   plain-read (suc n) ns long small =
-      let own = own-long n ns long small in
-      let fits = own-small n ns long small in
-      let after = plain-read n (drop each ns) (rest-long n ns long small) (rest-small n ns long small) in
-      rw (is-line-line kind (take each ns) own fits, values-line kind (take each ns) own fits, after .0, after .1, take-append-drop each ns) (refl, refl)
+      rw (
+        values-line kind (take each ns) (own-long n ns long small) (own-small n ns long small),
+        plain-read n (drop each ns) (rest-long n ns long small) (rest-small n ns long small),
+        take-append-drop each ns,
+      )
 
   -- ---- taken and printed again
 

@@ -1,19 +1,21 @@
 -- The lines of a printed sheet, read back stage by stage: nothing is left. Assumes nothing.
-use Prim.Native.Nat.{ℕ, suc, _*_, _/_}
+use Prim.Native.Nat.{ℕ, suc, _*_, _/_, _^_}
 use mathlib.Core.Bool.{false}
-use mathlib.Core.List.{List, [], _∷_, _++_}
+use mathlib.Core.List.{List, [], _∷_, _++_, append-nil}
 use mathlib.Core.Path.{_≡_, refl, ap}
 use native.Mathlib.Omega.{arith}
 use lib.ListN.{length}
 use lib.Seq.{take-append-seam, drop-append-seam, take-length, drop-length}
 use borrow.Author.Tests.{le-leb}
+use Rattle.sheet.specs.Digits.{Below}
 use Rattle.sheet.specs.Lines.{fieldCount, line, isLine}
 use Rattle.sheet.specs.Sheets.{Page, Saved, Sheeted, Ascending, WholePages, pagesWords, pageLines, plainLines, entriesOf}
 use Rattle.pages.specs.Pages.{pageNumber}
-use Rattle.sheet.specs.Reading.{next, isWord, pageCount, numbers, stages}
+use Rattle.sheet.specs.Reading.{next, isWord, pageCount, numbers, plainCount, stages}
+use Rattle.sheet.specs.declared.line.Line.{Line}
 use Rattle.sheet.specs.declared.line.Line.the-variants.{Page as PageLine, Word, Do}
 use Rattle.sheet.proofs.LineLaws.{is-line-line, values-line}
-use Rattle.sheet_claims.proofs.Plain.{filled, next-plain, plain-read}
+use Rattle.sheet_claims.proofs.Plain.{filled, next-plain, plain-counted, plain-read}
 use Rattle.sheet_claims.proofs.LineKinds.{no-other, no-line, one-below, word-line, no-word}
 use Rattle.sheet_claims.proofs.WordsRead.{next-of-pages, pages-read}
 
@@ -50,26 +52,31 @@ module _ (s : Saved) (h : Sheeted s) where
   abbrev dos : List (List ℕ)
   dos = plainLines Do count (s .words)
 
-  -- what follows the words is no word, and what follows the pages is no page
+  -- nothing follows the instructions, so what is said of lines and others is said of them alone
+  next-do : (P : List ℕ → Type 0) → ((vs : List ℕ) → length vs ≡ fieldCount Do → Below (2 ^ 64) vs → P (line Do vs)) → P [] → P (next dos)
+  next-do P one none = rw append-nil at (next-plain Do P count (s .words) [] one none four-each (h .words))
+
+  dos-counted : plainCount Do dos ≡ length dos
+  dos-counted = rw append-nil at (plain-counted Do count (s .words) [] four-each (h .words) (no-line Do))
+
+  -- what follows the words is no word, and what follows the pages is neither word nor instruction
   behind-words : (a : ℕ) → isWord a (next dos) ≡ false
   behind-words a =
-      next-plain Do (λ l. isWord a l ≡ false) count (s .words)
+      next-do (λ l. isWord a l ≡ false)
       (λ vs four small. no-word a (line Do vs) (no-other Do Word (line Do vs) (is-line-line Do vs four small) (λ q. let z : _≡_ {A = ℕ} 0 1 = cc in omega arith)))
-      (no-word a [] (no-line Word)) four-each (h .words)
+      (no-word a [] (no-line Word))
 
-  behind-pages : isLine PageLine (next (pagesWords (s .pages) ++ dos)) ≡ false
-  behind-pages =
-      next-of-pages (λ l. isLine PageLine l ≡ false) 0 (s .pages) dos (h .ascending) (h .pages)
-      (λ a v low a-small v-small. no-other Word PageLine (line Word (a ∷ v ∷ [])) (word-line a v a-small v-small) (λ q. let z : _≡_ {A = ℕ} 0 1 = cc in omega arith))
-      (next-plain Do (λ l. isLine PageLine l ≡ false) count (s .words)
-      (λ vs four small. no-other Do PageLine (line Do vs) (is-line-line Do vs four small) (λ q. let z : _≡_ {A = ℕ} 0 1 = cc in omega arith))
-      (no-line PageLine) four-each (h .words))
+  behind-pages : (kind : Line) → (Word ≡ kind → ⊥) → (Do ≡ kind → ⊥) → isLine kind (next (pagesWords (s .pages) ++ dos)) ≡ false
+  behind-pages kind no-words no-dos =
+      next-of-pages (λ l. isLine kind l ≡ false) 0 (s .pages) dos (h .ascending) (h .pages)
+      (λ a v low a-small v-small. no-other Word kind (line Word (a ∷ v ∷ [])) (word-line a v a-small v-small) no-words)
+      (next-do (λ l. isLine kind l ≡ false) (λ vs four small. no-other Do kind (line Do vs) (is-line-line Do vs four small) no-dos) (no-line kind))
 
   pub stages-read : stages (pageLines (s .pages) ++ (pagesWords (s .pages) ++ dos)) ≡ record { entries = entriesOf (s .pages); pages = s .pages; words = s .words; left = [] }
   unfolding stages
   stages-read =
-      let counted = pages-counted 0 (s .pages) (pagesWords (s .pages) ++ dos) (h .ascending) (h .pages) behind-pages in
+      let other = behind-pages PageLine (λ q. let z : _≡_ {A = ℕ} 0 1 = cc in omega arith) (λ q. let z : _≡_ {A = ℕ} 0 1 = cc in omega arith) in
+      let counted = pages-counted 0 (s .pages) (pagesWords (s .pages) ++ dos) (h .ascending) (h .pages) other in
       let words = pages-read 0 (s .pages) dos (h .ascending) (h .pages) behind-words in
-      let instructions = plain-read Do count (s .words) four-each (h .words) in
       rw (counted, take-append-seam (pageLines (s .pages)), drop-append-seam (pageLines (s .pages)), entries-read (s .pages) (h .pages))
-      (rw (words .0, words .1, instructions .0, take-length dos, drop-length dos, instructions .1))
+      (rw (words .0, words .1, dos-counted, take-length dos, drop-length dos, plain-read Do count (s .words) four-each (h .words)))

@@ -22,34 +22,34 @@ use Rattle.memory.proofs.Laws.{told, lookup-kept, length-written}
 use Rattle.stores.specs.Stores.{thenTry, tryAll, writtenAll}
 use Rattle.stores.specs.Places.{noPlace, Lies, Ready}
 use Rattle.stores.specs.declared.Slot.{Slot}
-use Rattle.stores.specs.declared.Slot.the-variants.{Empty, Store}
+use Rattle.stores.specs.declared.Slot.the-variants.{End, Store}
 use Rattle.stores.specs.declared.Stored.{Stored}
 use Rattle.stores.specs.declared.Stored.the-variants.{AllStored, NoneStored}
 
 -- ---- a slot, and those after it
 
 abbrev tryFirst : Lookup → Slot → Stored → Stored
-tryFirst look Empty next = AllStored
+tryFirst look End next = AllStored
 tryFirst look (Store a v) next = thenTry a (probe look a) next
 
 abbrev writeFirst : Lookup → Slot → (List ℕ → List ℕ) → List ℕ → List ℕ
-writeFirst look Empty next bytes = bytes
+writeFirst look End next bytes = bytes
 writeFirst look (Store a v) next bytes = next (written look a v bytes)
 
-try-from : (look : Lookup) (slots : List Slot) (i : ℕ) → tryAll look (drop i slots) ≡ tryFirst look (getD slots i Empty) (tryAll look (drop (suc i) slots))
+try-from : (look : Lookup) (slots : List Slot) (i : ℕ) → tryAll look (drop i slots) ≡ tryFirst look (getD slots i End) (tryAll look (drop (suc i) slots))
 unfolding tryAll
 try-from look [] zero = refl
 try-from look [] (suc i) = refl
-try-from look (Empty ∷ rest) zero = refl
+try-from look (End ∷ rest) zero = refl
 try-from look (Store a v ∷ rest) zero = refl
 try-from look (slot ∷ rest) (suc i) = try-from look rest i
 
 write-from : (look : Lookup) (slots : List Slot) (i : ℕ) (bytes : List ℕ)
-    → writtenAll look (drop i slots) bytes ≡ writeFirst look (getD slots i Empty) (writtenAll look (drop (suc i) slots)) bytes
+    → writtenAll look (drop i slots) bytes ≡ writeFirst look (getD slots i End) (writtenAll look (drop (suc i) slots)) bytes
 unfolding writtenAll
 write-from look [] zero bytes = refl
 write-from look [] (suc i) bytes = refl
-write-from look (Empty ∷ rest) zero bytes = refl
+write-from look (End ∷ rest) zero bytes = refl
 write-from look (Store a v ∷ rest) zero bytes = refl
 write-from look (slot ∷ rest) (suc i) bytes = write-from look rest i bytes
 
@@ -61,13 +61,13 @@ slotCount = 8
 
 -- every place that was noted is the one at which the slot's store lies
 pub record Noted (look : Lookup) (slots : List Slot) (places : List ℕ) : Type 0 where
-  pub each : (i v : ℕ) (a : Access) → i < length places → getD slots i Empty ≡ Store a v → Lies look a (getD places i 0)
+  pub each : (i v : ℕ) (a : Access) → i < length places → getD slots i End ≡ Store a v → Lies look a (getD places i 0)
 
-note : (look : Lookup) (slots : List Slot) (places : List ℕ) (i : ℕ) (a : Access) (v place : ℕ) → getD slots i Empty ≡ Store a v → located look a ≡ Within place
+note : (look : Lookup) (slots : List Slot) (places : List ℕ) (i : ℕ) (a : Access) (v place : ℕ) → getD slots i End ≡ Store a v → located look a ≡ Within place
     → Noted look slots places → Noted look slots (set places i place)
 note look slots places i a v place here lies noted = record { each = λ j u b among there. go j u b (rw length-set at among) there (eqb j i) refl }
   where
-    go : (j u : ℕ) (b : Access) → j < length places → getD slots j Empty ≡ Store b u → (t : Bool) → eqb j i ≡ t → Lies look b (getD (set places i place) j 0)
+    go : (j u : ℕ) (b : Access) → j < length places → getD slots j End ≡ Store b u → (t : Bool) → eqb j i ≡ t → Lies look b (getD (set places i place) j 0)
     go j u b among there true same known =
         let e : j ≡ i = eqb-true j i same in
         cc (getD-set-same places i place 0 (omega arith))
@@ -92,14 +92,14 @@ trying-starts look slots = record {
 }
 
 module _ {look : Lookup} {slots : List Slot} {places : List ℕ} {i : ℕ} (trying : Trying look slots places i) where
-  pub tried-to-end : getD slots i Empty ≡ Empty → AllStored ≡ tryAll look slots
+  pub tried-to-end : getD slots i End ≡ End → AllStored ≡ tryAll look slots
   tried-to-end none = sym (trying .rest ∙ try-from look slots i ∙ rw none)
 
   pub tried-all : length slots ≤ i → AllStored ≡ tryAll look slots
   unfolding tryAll
   tried-all past = sym (trying .rest ∙ rw (drop-of-length-le slots past))
 
-  module _ {a : Access} {v : ℕ} (here : getD slots i Empty ≡ Store a v) where
+  module _ {a : Access} {v : ℕ} (here : getD slots i End ≡ Store a v) where
     pub tried-blocked : {failure : Failure} → Unreached failure ≡ located look a → NoneStored a failure ≡ tryAll look slots
     tried-blocked {failure} e = sym (trying .rest ∙ try-from look slots i ∙ rw (here, told look a (Unreached failure) e))
 
@@ -134,14 +134,14 @@ pub making-starts : {pages lent : List ℕ} {slots : List Slot} {places : List �
 making-starts trying all = record { rest = refl; all = all; can = sym all; noted = trying .noted; room = trying .room; kept = refl }
 
 module _ {pages lent : List ℕ} {slots : List Slot} {places bytes : List ℕ} {i : ℕ} (making : Making pages lent slots places bytes i) where
-  pub made-to-end : getD slots i Empty ≡ Empty → bytes ≡ writtenAll (lookupOf pages lent) slots lent
+  pub made-to-end : getD slots i End ≡ End → bytes ≡ writtenAll (lookupOf pages lent) slots lent
   made-to-end none = sym (making .rest ∙ write-from (lookupOf pages lent) slots i bytes ∙ rw none)
 
   pub made-all : length slots ≤ i → bytes ≡ writtenAll (lookupOf pages lent) slots lent
   unfolding writtenAll
   made-all past = sym (making .rest ∙ rw (drop-of-length-le slots past))
 
-  module _ {a : Access} {v : ℕ} (here : getD slots i Empty ≡ Store a v) where
+  module _ {a : Access} {v : ℕ} (here : getD slots i End ≡ Store a v) where
     -- what trying finds at a store
     at-store : thenTry a (probe (lookupOf pages lent) a) (tryAll (lookupOf pages lent) (drop (suc i) slots)) ≡ AllStored
     at-store =

@@ -7,7 +7,7 @@ use Rattle.accesses.specs.declared.access.Access.{Access}
 use Rattle.accesses.specs.declared.reach.Reach.{Reach}
 use Rattle.accesses.specs.declared.reach.Reach.the-variants.{Ready, Blocked}
 use Rattle.stores.specs.declared.Slot.{Slot}
-use Rattle.stores.specs.declared.Slot.the-variants.{Empty, Store}
+use Rattle.stores.specs.declared.Slot.the-variants.{End, Store}
 use Rattle.stores.specs.declared.Stored.{Stored}
 use Rattle.stores.specs.declared.Stored.the-variants.{AllStored, NoneStored}
 
@@ -16,16 +16,16 @@ abbrev pub thenTry : Access → Reach → Stored → Stored
 thenTry a Ready next = next
 thenTry a (Blocked failure) next = NoneStored a failure
 
--- what trying the stores in their order finds; an empty slot ends the list
+-- what trying the stores in their order finds; what stands behind `End` is no part of it
 unfoldable pub tryAll : Lookup → List Slot → Stored
 tryAll look [] = AllStored
-tryAll look (Empty ∷ rest) = AllStored
+tryAll look (End ∷ rest) = AllStored
 tryAll look (Store a v ∷ rest) = thenTry a (probe look a) (tryAll look rest)
 
 -- the bytes that the stores leave once they are made, one after the other
 unfoldable pub writtenAll : Lookup → List Slot → List ℕ → List ℕ
 writtenAll look [] bytes = bytes
-writtenAll look (Empty ∷ rest) bytes = bytes
+writtenAll look (End ∷ rest) bytes = bytes
 writtenAll look (Store a v ∷ rest) bytes = writtenAll look rest (written look a v bytes)
 
 -- all of them, or none

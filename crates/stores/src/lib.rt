@@ -12,9 +12,9 @@ use memory::store_at;
 // How many stores a list can have.
 pub const SLOTS: usize = 8;
 
-// A store that is to be made; or none, which ends the list.
+// A store that is to be made, or the end of the list.
 pub enum Slot {
-    Empty,
+    End,
     Store(Access, u64),
 }
 
@@ -52,7 +52,7 @@ pub fn store_all(slots: [Slot; SLOTS], pages: &[u64], bytes: &mut [u8]) -> Store
     while tried < SLOTS {
         let slot = slots[tried];
         match slot {
-            Slot::Empty => break,
+            Slot::End => break,
             Slot::Store(access, _) => match memory::locate(access, pages, bytes) {
                 Located::Within(place) => places[tried] = place,
                 Located::Across => {}
@@ -65,7 +65,7 @@ pub fn store_all(slots: [Slot; SLOTS], pages: &[u64], bytes: &mut [u8]) -> Store
     while made < SLOTS {
         let slot = slots[made];
         match slot {
-            Slot::Empty => return Stored::AllStored,
+            Slot::End => return Stored::AllStored,
             Slot::Store(access, value) => make(access, value, places[made], pages, bytes),
         }
         made += 1;
