@@ -46,7 +46,8 @@ fn number(answer: Answer) -> u64
 
 // A call that runs nothing: the refusal of the tests, or 8 where they are passed.
 fn refuse(tested: Tested, report: &mut [u64]) -> u64
-    ensures { λ r. ⌜ ((state bytes : List ℕ) → record { number = r; state = state; bytes = bytes; report = now (report .exit) } ≡ byTests tested state bytes (now (report .entry)) (unreported state bytes (now (report .entry)))) ⌝ }
+    ensures { λ r. ⌜ ((state bytes : List ℕ) → record { number = r; state = state; bytes = bytes; report = now (report .exit) }
+        ≡ byTests tested state bytes (now (report .entry)) (unreported state bytes (now (report .entry)))) ⌝ }
 {
     match tested {
         Tested::Failed(refusal) => {
@@ -68,7 +69,8 @@ pub extern "C" fn driftpocket_run(
     words: &[u64],
     report: &mut [u64],
 ) -> u64
-    ensures { λ r. ⌜ record { number = r; state = now (state .exit); bytes = now (bytes .exit); report = now (report .exit) } ≡ crossed (now (state .entry)) (now (pages .entry)) (now (bytes .entry)) (now (words .entry)) (now (report .entry)) ⌝ }
+    ensures { λ r. ⌜ record { number = r; state = now (state .exit); bytes = now (bytes .exit); report = now (report .exit) }
+        ≡ crossed (now (state .entry)) (now (pages .entry)) (now (bytes .entry)) (now (words .entry)) (now (report .entry)) ⌝ }
 {
     let Formed::Whole(start) = processor::state_of(state) else {
         let tested = replay::check(pages, bytes.len(), false, words.len());

@@ -75,7 +75,8 @@ pub extern "C" fn driftpocket_sheet_read(
     words: &mut [u64],
     report: &mut [u64],
 ) -> u64
-    ensures { λ r. ⌜ record { number = r; buffers = record { state = now (state .exit); pages = now (pages .exit); bytes = now (bytes .exit); words = now (words .exit) }; report = now (report .exit) } ≡ crossedRead (now (text .entry)) (record { state = now (state .entry); pages = now (pages .entry); bytes = now (bytes .entry); words = now (words .entry) }) (now (report .entry)) ⌝ }
+    ensures { λ r. ⌜ record { number = r; buffers = record { state = now (state .exit); pages = now (pages .exit); bytes = now (bytes .exit); words = now (words .exit) }; report = now (report .exit) }
+        ≡ crossedRead (now (text .entry)) (record { state = now (state .entry); pages = now (pages .entry); bytes = now (bytes .entry); words = now (words .entry) }) (now (report .entry)) ⌝ }
 {
     if report.len() < READ_REPORT {
         return or_no_room(read_nowhere(text)[0]);
@@ -96,7 +97,8 @@ pub extern "C" fn driftpocket_sheet_write(
     text: &mut [u8],
     report: &mut [u64],
 ) -> u64
-    ensures { λ r. ⌜ record { number = r; text = now (text .exit); report = now (report .exit) } ≡ crossedWrite (now (state .entry)) (now (pages .entry)) (now (bytes .entry)) (now (words .entry)) (now (text .entry)) (now (report .entry)) ⌝ }
+    ensures { λ r. ⌜ record { number = r; text = now (text .exit); report = now (report .exit) }
+        ≡ crossedWrite (now (state .entry)) (now (pages .entry)) (now (bytes .entry)) (now (words .entry)) (now (text .entry)) (now (report .entry)) ⌝ }
 {
     if report.len() < WRITE_REPORT {
         let mut nowhere: [u8; 0] = [];

@@ -1,15 +1,15 @@
 -- The run that is left is not refused, and its sheet has room. Assumes nothing.
-use Prim.Native.Nat.{ℕ, _*_, _-_, _/_, _≤_}
-use mathlib.Core.Path.{_≡_, refl, ap, _∙_}
+use Prim.Native.Nat.{ℕ, _*_, _-_, _/_, _<_, _≤_}
+use mathlib.Core.Path.{_≡_, refl, sym, ap, _∙_}
 use mathlib.Core.List.{List}
 use native.Mathlib.Omega.{arith}
-use lib.ListN.{length, take, drop, length-drop}
+use lib.ListN.{length, take, drop, length-drop, drop-of-length-le}
 use lib.Seq.{take-all}
 use borrow.Author.Tests.{le-leb}
 use Rattle.numbers.specs.Buffers.{laid}
 use Rattle.numbers.proofs.Laws.{laid-front, length-laid}
 use Rattle.processor.specs.State.{inRange}
-use Rattle.processor.specs.Layout.{stateOf, goodState, wordsOf}
+use Rattle.processor.specs.Layout.{stateOf, formed, goodState, wordsOf}
 use Rattle.processor.specs.declared.state.State.{State}
 use Rattle.replay.specs.Run.{Run, inputOf, checkBy, replayed}
 use Rattle.replay.specs.declared.steps.Tested.the-variants.{Passed}
@@ -43,7 +43,7 @@ module _ (state : State) (pages bytes words : List ℕ) (pass : checkBy pages (l
   pub left-put : (out : List ℕ) → textLimit ≤ length out → (answer : Writing) (after : List ℕ)
       → record { answer = answer; text = after } ≡ writes (wordsOf state) pages bytes words out
       → PutBy answer (text (savedOf (wordsOf state) pages bytes words)) after
-  unfolding writes printed goodState stateOf
+  unfolding writes printed goodState formed stateOf
   left-put out room answer after e =
       let whole : List ℕ = text (savedOf (wordsOf state) pages bytes words) in
       let fits : length whole ≤ length out = omega (arith, text-room) in
@@ -74,6 +74,13 @@ left-passes start pages bytes words pass r e after rest same left =
       few = omega arith;
     })
     )
+
+-- past the end nothing is left
+pub nothing-left : (words count : ℕ) → words / 4 < count → (list : List ℕ) → length list ≡ words → drop words list ≡ drop (4 * count) list
+nothing-left words count over list long =
+    let here : length list ≤ words = omega arith in
+    let there : length list ≤ 4 * count = omega arith in
+    drop-of-length-le list here ∙ sym (drop-of-length-le list there)
 
 -- the words that are left, as the code has them
 pub left-words : (words : List ℕ) (done count : ℕ) → ((list : List ℕ) → length list ≡ length words → drop done list ≡ drop (4 * count) list)

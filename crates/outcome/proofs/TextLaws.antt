@@ -1,57 +1,30 @@
 -- What reading a text into the program's buffers says of its outcome. Assumes nothing.
 use Prim.Native.Nat.{ℕ, _*_, _≤_}
 use mathlib.Core.Path.{_≡_, refl, sym, _∙_}
-use mathlib.Core.Bool.{Bool, true, false, cond}
+use mathlib.Core.Bool.{true, true≢false}
 use mathlib.Core.List.{List}
 use native.Mathlib.Omega.{arith}
-use lib.ListN.{length, take, drop}
-use lib.Dec.{eqb}
-use borrow.Author.Tests.{le-leb, le-ltb, eq-eqb}
+use lib.ListN.{length, take}
+use borrow.Author.Tests.{le-leb, le-ltb}
 use Rattle.numbers.proofs.Laws.{laid-front, laid-whole, length-laid}
 use Rattle.pages.specs.Pages.{pageLimit, pageBytes}
 use Rattle.answers.specs.Answer.{refusalNumber, sheetNumber}
 use Rattle.processor.specs.State.{inRange}
-use Rattle.processor.specs.Layout.{fields, stateOf, formed}
+use Rattle.processor.specs.Layout.{fields, stateOf, formed, goodState}
 use Rattle.processor.specs.declared.layout.Formed.the-variants.{NoState}
-use Rattle.processor.proofs.Layouts.{formed-none}
+use Rattle.processor.proofs.Layouts.{good-none, good-whole, good-fields}
 use Rattle.instructions.specs.Instruction.{instructionWords}
 use Rattle.replay.specs.Run.{instructionLimit, inputOf, checkBy}
 use Rattle.replay.specs.declared.steps.Tested.{Tested}
 use Rattle.replay.specs.declared.steps.Tested.the-variants.{Passed, Failed}
-use Rattle.sheet.specs.Lines.{isLine, values, lines}
-use Rattle.sheet.specs.Sheets.{Saved, Page, entriesOf, bytesOf, version}
-use Rattle.sheet.specs.Reading.{Parsed, sheet, noSheet, next, value, stages, parsedBody, parsedBy, parsedLines, parsed}
-use Rattle.sheet.specs.declared.line.Line.the-variants.{Sheet, State as StateLine}
-use Rattle.sheet.proofs.LineLaws.{values-count}
+use Rattle.sheet.specs.Sheets.{Saved, entriesOf, bytesOf}
+use Rattle.sheet.specs.Reading.{Parsed, sheet, noSheet, parsed}
 use Rattle.sheet.proofs.TestedLaws.{passes}
 use Rattle.sheet_read.specs.Reads.{Buffers, Read, tested, sizesOf, fits, filled, byTest as readByTest, byText as readByText, reads}
 use Rattle.sheet_read.specs.declared.buffers.Sizes.{Sizes}
 use Rattle.sheet_read.specs.declared.buffers.Reading.{Reading}
 use Rattle.sheet_read.specs.declared.buffers.Reading.the-variants.{Done, NoSheet, Refused, TooLong}
 use Rattle.outcome.specs.Outcome.{refusedLine, answered, textLimit, outcome}
-
--- ---- a state that was read
-
-only-sheet : (a b c d : Bool) (s : Saved) (state : List ℕ) (pages : List Page) (words : List ℕ) (row : ℕ)
-    → cond a (cond b (cond c (cond d (sheet (record { state = state; pages = pages; words = words })) (noSheet row)) (noSheet 2)) (noSheet 1)) (noSheet 1) ≡ sheet s
-    → s .state ≡ state
-only-sheet true true true true s state pages words row e = cc
-only-sheet true true true false s state pages words row e = let z : _≡_ {A = ℕ} 0 1 = cc in absurd (omega arith)
-only-sheet true true false d s state pages words row e = let z : _≡_ {A = ℕ} 0 1 = cc in absurd (omega arith)
-only-sheet true false c d s state pages words row e = let z : _≡_ {A = ℕ} 0 1 = cc in absurd (omega arith)
-only-sheet false b c d s state pages words row e = let z : _≡_ {A = ℕ} 0 1 = cc in absurd (omega arith)
-
--- it has its ten fields
-parsed-fields : (t : List ℕ) (s : Saved) → parsed t ≡ sheet s → length (s .state) ≡ fields
-unfolding parsed parsedLines parsedBy parsedBody
-parsed-fields t s e =
-    let ls : List (List ℕ) = lines t in
-    let rest : List (List ℕ) = drop 1 ls in
-    let same = only-sheet (isLine Sheet (next ls)) (eqb (value Sheet 0 (next ls)) version) (isLine StateLine (next rest)) (eqb (length (stages (drop 1 rest) .left)) 0)
-    s (values StateLine (next rest)) (stages (drop 1 rest) .pages) (stages (drop 1 rest) .words) _ e in
-    rw same (values-count StateLine (next rest))
-
--- ---- the buffers
 
 -- room for a state, the pages with their bytes, and the instructions
 pub record Roomy (lent : Buffers) : Type 0 where
@@ -65,7 +38,7 @@ pub record Ready (t : List ℕ) (sizes : Sizes) (b : Buffers) : Type 0 where
   pub pages-in : sizes .pages ≤ length (b .pages)
   pub bytes-in : sizes .bytes ≤ length (b .bytes)
   pub words-in : sizes .words ≤ length (b .words)
-  pub ten : length (b .state) ≡ fields
+  pub good : goodState (b .state) ≡ true
   pub pass : checkBy (take (sizes .pages) (b .pages)) (length (take (sizes .bytes) (b .bytes))) (inRange (stateOf (b .state))) (length (take (sizes .words) (b .words))) ≡ Passed
   pub same : answered (inputOf (stateOf (b .state)) (take (sizes .pages) (b .pages)) (take (sizes .bytes) (b .bytes)) (take (sizes .words) (b .words))) ≡ outcome t
 
@@ -81,8 +54,8 @@ module _ (t : List ℕ) (short : length t ≤ textLimit) (lent : Buffers) (roomy
     ready : (fits s lent ≡ true) × Ready t (sizesOf s) (filled s lent)
     unfolding tested sizesOf fits filled outcome
     ready =
-        let p = passes (entriesOf (s .pages)) (length (bytesOf (s .pages))) (inRange (stateOf (s .state))) (length (s .words)) q in
-        let ten = parsed-fields t s e in
+        let p = passes (entriesOf (s .pages)) (length (bytesOf (s .pages))) (goodState (s .state)) (length (s .words)) q in
+        let ten = good-fields (s .state) (p .state) in
         let pages-fit : length (entriesOf (s .pages)) ≤ length (lent .pages) = omega arith in
         let bytes-fit : length (bytesOf (s .pages)) ≤ length (lent .bytes) = omega arith in
         let words-fit : length (s .words) ≤ length (lent .words) = omega arith in
@@ -95,8 +68,8 @@ module _ (t : List ℕ) (short : length t ≤ textLimit) (lent : Buffers) (roomy
             pages-in = rw (length-laid (lent .pages) 0 (entriesOf (s .pages)) (omega arith)) pages-fit;
             bytes-in = rw (length-laid (lent .bytes) 0 (bytesOf (s .pages)) (omega arith)) bytes-fit;
             words-in = rw (length-laid (lent .words) 0 (s .words) (omega arith)) words-fit;
-            ten = rw state ten;
-            pass = rw (state, pages, bytes, words) q;
+            good = rw state (p .state);
+            pass = rw (state, pages, bytes, words, ← good-whole (s .state) ten) q;
             same = rw (state, pages, bytes, words, le-ltb textLimit (length t) short, e, q);
           },
         )
@@ -113,6 +86,6 @@ module _ (t : List ℕ) (short : length t ≤ textLimit) (lent : Buffers) (roomy
       by-text (sheet s) e = by-test s e (tested s) refl
       by-text (noSheet row) e = rw (le-ltb textLimit (length t) short, e)
 
--- ten words make a state
-pub no-state-never : (words : List ℕ) → length words ≡ fields → formed words ≡ NoState → ⊥
-no-state-never words ten none = let off : false ≡ true = sym (formed-none words none) ∙ eq-eqb _ _ ten in let z : _≡_ {A = ℕ} 0 1 = cc in omega arith
+-- where a state is good there is one
+pub no-state-never : (words : List ℕ) → goodState words ≡ true → formed words ≡ NoState → ⊥
+no-state-never words good none = true≢false (sym good ∙ good-none words none)

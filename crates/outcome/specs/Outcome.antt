@@ -12,17 +12,12 @@ use Rattle.instructions.specs.Instruction.{instructionWords}
 use Rattle.replay.specs.Run.{Input, inputOf, Run, replayed}
 use Rattle.replay.specs.declared.steps.Tested.{Tested}
 use Rattle.replay.specs.declared.steps.Tested.the-variants.{Passed, Failed}
-use Rattle.sheet.specs.Digits.{lineFeed}
-use Rattle.sheet.specs.Lines.{fields}
+use Rattle.sheet.specs.Lines.{lineOf}
 use Rattle.sheet.specs.Sheets.{Saved, savedOf, entriesOf, bytesOf, text}
 use Rattle.sheet.specs.Reading.{Parsed, sheet, noSheet, parsed}
 use Rattle.sheet_read.specs.Reads.{tested}
 
--- ---- lines that no sheet has
-
--- a word, numbers behind tabs, a line feed
-unfoldable pub lineOf : List ℕ → List ℕ → List ℕ
-lineOf word values = word ++ (fields values ++ (lineFeed ∷ []))
+-- ---- lines that no sheet has, in the form of its lines
 
 -- "answer" and "refused"
 abbrev pub answerWord : List ℕ

@@ -11,10 +11,6 @@ ghost use Rattle.replay.specs.declared.steps.Tested.the-variants.{Passed};
 ghost use Rattle.sheet.specs.Sheets.{savedOf, text as textOf};
 ghost use Rattle.outcome.specs.Outcome.{answerLine, refusedLine, answered, textLimit, outcome as outcomeOf};
 ghost use Rattle.outcome.specs.Fronts.{Holds};
-
-mod lines;
-
-use crate::lines::put_line;
 use answers::NO_ROOM;
 use answers::NO_SHEET;
 use instructions::INSTRUCTION_WORDS;
@@ -28,14 +24,18 @@ use processor::Formed;
 use processor::Refusal;
 use processor::State;
 use replay::INSTRUCTION_LIMIT;
+use sheet::FIELD;
+use sheet::put_line;
 use sheet_read::Reading;
 use sheet_write::Writing;
 
 // The bytes of the longest text that is read: that of as many full pages and instructions as there can be.
 const TEXT_LIMIT: usize = 413250;
 
-// The bytes of a line with the five numbers of an answer.
-const LINE: usize = 97;
+// The bytes of a line `answer`, with five numbers, and of a line `refused`, with two.
+const ANSWER_LINE: usize = 7 + 5 * FIELD;
+
+const REFUSED_LINE: usize = 8 + 2 * FIELD;
 
 // How many bytes of a line and of a sheet are to be written.
 struct Fronts {
@@ -49,9 +49,9 @@ fn refuse(refusal: u64, row: u64, line: &mut [u8]) -> Fronts
     ensures { λ r. ⌜ ((sheet : List ℕ) → Holds (refusedLine refusal row) (now (line .exit)) sheet r) ⌝ }
 {
     let values = [refusal, row];
-    let long = put_line(b"refused", &values, line);
+    put_line(b"refused", &values, line, 0);
     Fronts {
-        line: long,
+        line: REFUSED_LINE,
         sheet: 0,
     }
 }
@@ -70,7 +70,8 @@ fn put_answer(count: usize, answer: Answer, line: &mut [u8]) -> usize
         report.code,
         report.address,
     ];
-    put_line(b"answer", &values, line)
+    put_line(b"answer", &values, line, 0);
+    ANSWER_LINE
 }
 
 // The sheet of a run that is not refused, and its length.
@@ -182,7 +183,7 @@ fn outcome(text: &[u8], line: &mut [u8], sheet: &mut [u8]) -> Fronts
 fn main() {
     let mut text = text_buffer();
     let n = io::read_full(STDIN_FILENO, &mut text);
-    let mut line = [0u8; LINE];
+    let mut line = [0u8; ANSWER_LINE];
     let mut sheet = text_buffer();
     let fronts = outcome(&text[..n], &mut line, &mut sheet);
     let line_front = fronts.line;

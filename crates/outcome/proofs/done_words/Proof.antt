@@ -1,7 +1,7 @@
 -- `done_words` meets its contract: past the end nothing is left. Assumes nothing.
 use native.Mathlib.Omega.{arith}
 use borrow.Author.Needs.{needs}
-use Rattle.outcome.proofs.LineLaws.{nothing-left}
+use Rattle.outcome.proofs.RunLaws.{nothing-left}
 use Rattle.outcome.proofs.done_words.Statement.{statement}
 use Rattle.outcome.proofs.done_words.Tie as tie
 

@@ -104,7 +104,7 @@ returns-2 c =
     let after-enum-told = c .before .before .before .before .before in
     let after-state-of = after-enum-told .before .before in
     let after-sizes = after-state-of .before .before .before in
-    absurd (no-state-never _ (ready after-sizes .ten) (sym (after-state-of .state-of .ensures) ∙ after-enum-told .enum-told .given .1))
+    absurd (no-state-never _ (ready after-sizes .good) (sym (after-state-of .state-of .ensures) ∙ after-enum-told .enum-told .given .1))
 
 array-share-prefix-pages : tie.Need-array-share-prefix-pages
 array-share-prefix-pages c = ready (c .before .before .before .before .before .before) .pages-in
@@ -128,7 +128,9 @@ run-requires : tie.Need-run-requires
 run-requires c κs =
     let after-start = c .before .before .before .before .before .before in
     let after-sizes = after-start .before .before .before .before .before in
-    (rw (whole after-start) (ready after-sizes .pass), after-sizes .before .before .before .before .before .before .before .before .before .before .before .before .before .before .before .before .before .pre)
+    let after-read = after-sizes .before .before .before .before .before .before in
+    let start = after-read .before .before .before .before .before .before .before .before .before .before .before in
+    (rw (whole after-start) (ready after-sizes .pass), start .pre)
 
 enum-known-row : tie.Need-enum-known-row
 enum-known-row c = search needs

@@ -1,6 +1,8 @@
 -- `put_answer` meets its contract. Assumes nothing.
+use mathlib.Core.Path.{refl}
 use borrow.Author.Needs.{needs}
-use Rattle.outcome.specs.Outcome.{answerLine}
+use Rattle.outcome.specs.Outcome.{answerWord, answerNumbers, answerLine}
+use Rattle.outcome.proofs.LineLaws.{line-front}
 use Rattle.outcome.proofs.put_answer.Statement.{statement}
 use Rattle.outcome.proofs.put_answer.Tie as tie
 
@@ -24,7 +26,8 @@ unfolding answerLine
 returns c =
     let after-put-line = c .before .before in
     let after-report = after-put-line .before .before .before .before in
-    (after-put-line .put-line .ensures .0, rw (← after-report .report .ensures) (after-put-line .put-line .ensures .1))
+    let start = after-report .before .before in
+    rw (← after-report .report .ensures) (line-front answerWord (answerNumbers (start .args .count) (after-report .report .result)) _ _ 97 refl (start .pre) (after-put-line .put-line .ensures .1))
 
 pub put-answer-spec : {M : Type 1} → statement M
 put-answer-spec =

@@ -1,9 +1,10 @@
 -- `refuse` meets its contract: a line, and nothing of a sheet. Assumes nothing.
-use mathlib.Core.List.{append-nil}
-use mathlib.Core.Path.{_∙_}
+use mathlib.Core.List.{[], _∷_, append-nil}
+use mathlib.Core.Path.{refl, _∙_}
 use native.Mathlib.Omega.{arith}
 use borrow.Author.Needs.{needs}
-use Rattle.outcome.specs.Outcome.{refusedLine}
+use Rattle.outcome.specs.Outcome.{refusedWord, refusedLine}
+use Rattle.outcome.proofs.LineLaws.{line-front}
 use Rattle.outcome.proofs.refuse.Statement.{statement}
 use Rattle.outcome.proofs.refuse.Tie as tie
 
@@ -23,11 +24,9 @@ returns : tie.Need-returns
 unfolding refusedLine
 returns c sheet =
     let after-put-line = c .before .before in
-    record {
-      in-line = after-put-line .put-line .ensures .0;
-      in-sheet = omega arith;
-      whole-is = append-nil _ ∙ after-put-line .put-line .ensures .1;
-    }
+    let start = after-put-line .before .before .before .before .before in
+    let front = line-front refusedWord (start .args .refusal ∷ start .args .row ∷ []) _ _ 44 refl (omega (arith, start .pre)) (after-put-line .put-line .ensures .1) in
+    record { in-line = front .0; in-sheet = omega arith; whole-is = append-nil _ ∙ front .1 }
 
 pub refuse-spec : {M : Type 1} → statement M
 refuse-spec =
