@@ -10,7 +10,7 @@ use borrow.Author.Tests.{eq-eqb, ne-eqb}
 use Rattle.sheet.specs.Digits.{Below}
 use Rattle.sheet.specs.Lines.{fieldCount, line, lines, isLine, values}
 use Rattle.sheet.specs.Sheets.{version}
-use Rattle.sheet.specs.Reading.{Parsed, noSheet, value, next, isWord, parsedBody, parsedBy, parsedLines}
+use Rattle.sheet.specs.Reading.{noSheet, value, next, isWord, parsedBody, parsedBy, parsedLines}
 use Rattle.sheet.specs.declared.line.Line.{Line}
 use Rattle.sheet.specs.declared.line.Line.the-variants.{Sheet, Word}
 use Rattle.sheet.proofs.LineLaws.{next-line, nothing-begins, is-line-line, values-line, values-count, one-kind}

@@ -1,18 +1,18 @@
 -- What a text is, from the stages found in it: the head, the stages behind it, and what is left over. Assumes nothing.
-use Prim.Native.Nat.{ℕ, suc, _+_, _-_, _*_, _<_, _≤_}
+use Prim.Native.Nat.{ℕ, suc, _+_, _-_, _<_, _≤_}
 use mathlib.Core.Path.{_≡_, refl, sym, ap, _∙_}
 use mathlib.Core.Bool.{true, false}
 use mathlib.Core.List.{List, [], _∷_, append-nil}
 use native.Mathlib.Omega.{arith}
 use lib.Dec.{eqb}
 use lib.ListN.{length, take, drop, length-drop, drop-of-length-le}
-use borrow.Author.Tests.{eq-eqb, ne-eqb}
+use borrow.Author.Tests.{ne-eqb}
 use Rattle.sheet.specs.Lines.{lines, joined, begins, form, width, values, isLine}
 use Rattle.sheet.specs.Sheets.{version}
 use Rattle.sheet.specs.Reading.{noSheet, next, value, numbers, plainCount, pageCount, pagesIn, stages, finished, parsedBody, parsedBy, parsedLines, parsed}
 use Rattle.sheet.specs.declared.line.Line.the-variants.{Sheet, State, Page, Word, Do}
 use Rattle.sheet.proofs.LineLaws.{next-line, lines-step, joined-lines}
-use Rattle.sheet_read.specs.Scan.{Lead, Stands, endOf, numbersIn, wordCount, savedAt, Headed, Shaped}
+use Rattle.sheet_read.specs.Scan.{Stands, endOf, numbersIn, wordCount, savedAt, Headed, Shaped}
 use Rattle.sheet_read.specs.declared.stage.Stage.{Stage}
 use Rattle.sheet_read.proofs.Leads.{lead-one, lead-front, lead-end, lead-past, lead-left, numbers-turn, numbers-none}
 use Rattle.sheet_read.proofs.Places.{line-past, lines-at, is-line}

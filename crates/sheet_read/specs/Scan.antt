@@ -13,7 +13,7 @@ use Rattle.sheet.specs.Lines.{lines, isLine, width}
 use Rattle.sheet.specs.Sheets.{Saved, version, slots, lineCount}
 use Rattle.sheet.specs.Reading.{next, value, numbers, slotValue, pastSlot, pastSlots, pagesIn, sheet, noSheet, parsed}
 use Rattle.sheet.specs.declared.line.Line.{Line}
-use Rattle.sheet.specs.declared.line.Line.the-variants.{Sheet as SheetLine, State as StateLine, Page as PageLine, Word, Do}
+use Rattle.sheet.specs.declared.line.Line.the-variants.{Sheet as SheetLine, State as StateLine, Page as PageLine, Do}
 use Rattle.sheet_read.specs.declared.buffers.Sizes.{Sizes}
 use Rattle.sheet_read.specs.declared.stage.Stage.{Stage}
 use Rattle.sheet_read.specs.declared.scan.Shape.{Shape}

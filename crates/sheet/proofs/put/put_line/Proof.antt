@@ -7,9 +7,9 @@ use native.Mathlib.Omega.{arith}
 use lib.ListN.{length}
 use borrow.Author.Tests.{not-true, not-false}
 use Rattle.numbers.specs.Numbers.{inside}
-use Rattle.numbers.proofs.Laws.{ends-inside, length-laid, laid-if, laid-unless}
+use Rattle.numbers.proofs.Laws.{ends-inside, laid-if, laid-unless}
 use Rattle.sheet.specs.Digits.{lineFeed}
-use Rattle.sheet.specs.Lines.{fields, lineOf}
+use Rattle.sheet.specs.Lines.{lineOf}
 use Rattle.sheet.proofs.LineLaws.{fields-length}
 use Rattle.sheet.proofs.Turns.{line-long, line-out, line-laid}
 use borrow.Author.Needs.{needs}

@@ -1,7 +1,5 @@
 -- `fill_all` meets its contract: each part is laid into its buffer. Assumes nothing.
-use mathlib.Core.Path.{sym, _∙_, ap}
-use Prim.Native.Nat.{ℕ, _*_}
-use Rattle.processor.specs.Layout.{fields}
+use mathlib.Core.Path.{sym}
 use Rattle.sheet_read.proofs.Saved.{filled-is}
 use borrow.Author.Needs.{needs}
 use Rattle.sheet_read.proofs.buffers.fill_all.Statement.{statement}

@@ -4,7 +4,6 @@ use mathlib.Core.Path.{_≡_, refl, sym, _∙_}
 use mathlib.Core.List.{List}
 use native.Mathlib.Omega.{arith}
 use lib.ListN.{length, drop}
-use borrow.Author.Needs.{needs}
 use Rattle.pages.specs.Pages.{pageBytes}
 use Rattle.sheet.specs.Lines.{lines, width}
 use Rattle.sheet.specs.Sheets.{bytesOf}

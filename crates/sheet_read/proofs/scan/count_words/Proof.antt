@@ -5,7 +5,6 @@ use mathlib.Core.List.{List}
 use native.Mathlib.Nat.{zero-add}
 use native.Mathlib.Omega.{arith}
 use lib.ListN.{length, drop}
-use borrow.Author.Needs.{needs}
 use Rattle.sheet.specs.Lines.{lines, width}
 use Rattle.sheet.specs.declared.line.Line.the-variants.{Page, Word}
 use Rattle.sheet_read.specs.Scan.{Lead, endOf, numbersIn, wordCount}

@@ -1,10 +1,9 @@
 -- `scan_body` meets its contract: every stage ends within the text, and what is left over, or nothing, decides. Assumes nothing.
 use Prim.Native.Nat.{ℕ, _≤_}
 use mathlib.Core.List.{List}
-use mathlib.Core.Path.{_≡_}
 use native.Mathlib.Omega.{arith}
 use lib.ListN.{length}
-use Rattle.sheet.specs.declared.line.Line.the-variants.{State, Page, Word, Do}
+use Rattle.sheet.specs.declared.line.Line.the-variants.{Page, Word, Do}
 use Rattle.sheet_read.specs.Scan.{endOf}
 use Rattle.sheet_read.specs.declared.stage.Stage.{Stage}
 use Rattle.sheet_read.proofs.Pages.{stage}

@@ -1,9 +1,9 @@
 -- `field` meets its contract: a number stands there, so nothing else is found. Assumes nothing.
 use Prim.Native.Nat.{_+_, _*_, _≤_}
-use mathlib.Core.Path.{_≡_, sym, ap, _∙_}
+use mathlib.Core.Path.{_≡_, sym, _∙_}
 use native.Mathlib.Omega.{arith}
 use lib.ListN.{length, take, drop}
-use Rattle.sheet.specs.Lines.{width, numeral}
+use Rattle.sheet.specs.Lines.{width}
 use Rattle.sheet.specs.Reading.{value}
 use Rattle.sheet.specs.declared.digits.Numeral.the-variants.{Number}
 use Rattle.sheet_read.proofs.Places.{number-in, numeral-at, number-same, number-there}
