@@ -3,7 +3,7 @@
 use Prim.Native.Nat.{ℕ, _≤_, _<_}
 use mathlib.Core.Bool.{Bool, true, false, cond}
 use mathlib.Core.List.{List, []}
-use mathlib.Core.Path.{_≡_, refl, sym, _∙_}
+use mathlib.Core.Path.{_≡_, refl, sym, ap, _∙_}
 use native.Mathlib.Omega.{arith}
 use lib.ListN.{length}
 use lib.Dec.{leb}
@@ -22,7 +22,7 @@ use Rattle.sheet_read.specs.declared.buffers.Reading.{Reading}
 use Rattle.sheet_read.specs.declared.buffers.Reading.the-variants.{Done as ReadDone, NoSheet, Refused as ReadRefused, TooLong as ReadTooLong}
 use Rattle.sheet_write.specs.Writes.{writeNumber, Written, byTest as writeByTest, printed, writes}
 use Rattle.sheet_write.specs.declared.text.Writing.{Writing}
-use Rattle.driftpocket_sheet.specs.Crossing.{orNoRoom, readReport, writeReport, readWords, writeWords, crossedRead, crossedWrite}
+use Rattle.driftpocket_sheet.specs.Crossing.{orNoRoom, readReport, writeReport, readWords, writeWords, ReadCrossing, crossedRead, WriteCrossing, crossedWrite}
 
 -- what holds of both ways holds
 either : {A : Type 0} (p : Bool) (a b : A) (P : A → Type 0) → P a → P b → P (cond p a b)
@@ -66,12 +66,18 @@ pub read-short : (text : List ℕ) (lent : Buffers) (report : List ℕ) → leng
     → record { number = orNoRoom (readNumber (reads text (record { state = []; pages = []; bytes = []; words = [] }) .answer)); buffers = lent; report = report }
     ≡ crossedRead text lent report
 unfolding crossedRead
-read-short text lent report short = rw (lt-ltb _ _ short, any-buffers text lent (record { state = []; pages = []; bytes = []; words = [] }))
+read-short text lent report short = rw (lt-ltb _ _ short) (ap returned (any-buffers text (record { state = []; pages = []; bytes = []; words = [] }) lent))
+  where
+    returned : ℕ → ReadCrossing
+    returned number = record { number = number; buffers = lent; report = report }
 
 pub write-short : (state pages bytes words text report : List ℕ) → length report < writeWords
     → record { number = orNoRoom (writeNumber (writes state pages bytes words [] .answer)); text = text; report = report } ≡ crossedWrite state pages bytes words text report
 unfolding crossedWrite
-write-short state pages bytes words text report short = rw (lt-ltb _ _ short, any-text state pages bytes words text [])
+write-short state pages bytes words text report short = rw (lt-ltb _ _ short) (ap returned (any-text state pages bytes words [] text))
+  where
+    returned : ℕ → WriteCrossing
+    returned number = record { number = number; text = text; report = report }
 
 -- ---- a report with room for all its words
 
