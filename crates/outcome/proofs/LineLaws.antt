@@ -3,14 +3,11 @@ use Prim.Native.Nat.{ℕ, _+_, _*_, _≤_}
 use mathlib.Core.Path.{_≡_, _∙_}
 use mathlib.Core.List.{List}
 use native.Mathlib.Omega.{arith}
-use lib.ListN.{length, take, length-append}
+use lib.ListN.{length, take}
 use Rattle.numbers.specs.Buffers.{laidIf}
 use Rattle.numbers.proofs.Laws.{laid-if, laid-front, length-laid}
 use Rattle.sheet.specs.Lines.{lineOf}
-use Rattle.sheet.proofs.LineLaws.{fields-length}
-
-line-long : (name values : List ℕ) → length (lineOf name values) ≡ length name + 18 * length values + 1
-line-long name values = simp (length-append, fields-length) (omega arith)
+use Rattle.sheet.proofs.LineLaws.{line-long}
 
 pub line-front : (name values start line : List ℕ) (n : ℕ) → n ≡ length name + 18 * length values + 1 → n ≤ length start
     → line ≡ laidIf start 0 (lineOf name values) → (n ≤ length line) × (take n line ≡ lineOf name values)

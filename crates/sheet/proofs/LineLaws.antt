@@ -1,7 +1,7 @@
 -- The laws of lines and texts, for the code's proofs and the crates above.
 --
 -- How long and how large:
---     hex-length, number-length, fields-length, line-length   what is written
+--     hex-length, number-length, fields-length, line-length, line-long   what is written
 --     some-fields, few-fields, early-first                    how many numbers a line has, and where they begin
 --     value-below                                             16 digits hold a number of 64 bits
 -- A line of a kind at the front of a text:
@@ -28,7 +28,7 @@ use borrow.Author.Tests.{eq-eqb, eqb-true, leb-true, not-true}
 use Rattle.numbers.specs.Buffers.{laid}
 use Rattle.numbers.proofs.Laws.{lies-inside}
 use Rattle.sheet.specs.Digits.{tab, lineFeed, digits, number, valueOf, Below}
-use Rattle.sheet.specs.Lines.{name, fieldCount, fields, line, joined, lines, anyDigit, numberForm, fieldForms, form, begins, numeral, first, width, isLine, valuesIn, values, fitsLine, putLine}
+use Rattle.sheet.specs.Lines.{name, fieldCount, fields, lineOf, line, joined, lines, anyDigit, numberForm, fieldForms, form, begins, numeral, first, width, isLine, valuesIn, values, fitsLine, putLine}
 use Rattle.sheet.specs.declared.digits.Numeral.the-variants.{Number}
 use Rattle.sheet.specs.Reading.{next}
 use Rattle.sheet.specs.declared.line.Line.{Line}
@@ -44,6 +44,10 @@ pub use Rattle.sheet.proofs.FormLaws.{joined-lines}
 
 width-is : (kind : Line) → width kind ≡ suc (length (name kind) + 18 * fieldCount kind)
 width-is kind = omega arith
+
+-- of any name
+pub line-long : (named vs : List ℕ) → length (lineOf named vs) ≡ length named + 18 * length vs + 1
+line-long named vs = rw (length-append named (fields vs ++ (lineFeed ∷ [])), length-append (fields vs) (lineFeed ∷ []), fields-length vs) (omega arith)
 
 pub line-length : (kind : Line) (vs : List ℕ) → length vs ≡ fieldCount kind → length (line kind vs) ≡ width kind
 unfolding line

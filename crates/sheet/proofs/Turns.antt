@@ -7,7 +7,7 @@ use native.Mathlib.Nat.{pow-suc, pow-le-pow-right}
 use native.Mathlib.Numerals.{add-one}
 use native.Mathlib.Omega.{arith}
 use lib.Dec.{lit<, eqb}
-use lib.ListN.{length, getD, take, drop, set, length-append, length-drop, drop-of-length-le}
+use lib.ListN.{length, getD, take, drop, set, length-drop, drop-of-length-le}
 use lib.Seq.{take-all, drop-cons, drop-drop}
 use Rattle.sheet.specs.Digits.{digit, digitValue, hex, number, tab, lineFeed, valueFrom, valueOf}
 use Rattle.numbers.specs.Numbers.{inside}
@@ -18,6 +18,7 @@ use Rattle.sheet.specs.declared.line.Line.{Line}
 use Rattle.sheet.specs.declared.digits.Numeral.the-variants.{Number, NoNumber}
 use Rattle.sheet.proofs.DigitLaws.{hex-length, number-length}
 use Rattle.sheet.proofs.Fields.{fields-length, forms-length}
+use Rattle.sheet.proofs.LineLaws.{line-long}
 use Rattle.sheet.proofs.FormLaws.{begins-room, begins-append, begins-take}
 use borrow.Author.Tests.{lt-leb, eq-eqb, ne-eqb}
 
@@ -148,13 +149,10 @@ fields-end out at values i end = rw (drop-of-length-le values end) (laid-nil out
 -- ---- a line
 
 module _ (named vs : List ℕ) where
-  pub line-long : length (lineOf named vs) ≡ length named + 18 * length vs + 1
-  line-long = rw (length-append named (fields vs ++ (lineFeed ∷ [])), length-append (fields vs) (lineFeed ∷ []), fields-length vs) (omega arith)
-
   -- too long for its room
   pub line-out : (out : List ℕ) (at : ℕ) → length out < at + (length named + 18 * length vs + 1) → inside (length out) at (length (lineOf named vs)) ≡ false
   unfolding inside
-  line-out out at long = rw line-long (lt-leb (at + (length named + 18 * length vs + 1)) (length out) long)
+  line-out out at long = rw (line-long named vs) (lt-leb (at + (length named + 18 * length vs + 1)) (length out) long)
 
   -- as it is laid: its name, its fields, the line feed
   pub line-laid : (out : List ℕ) (at : ℕ) → at + (length named + 18 * length vs + 1) ≤ length out

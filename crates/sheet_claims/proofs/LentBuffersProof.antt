@@ -1,12 +1,11 @@
 -- Reading and writing undo each other, of what the contracts give: from the round trips of sheets and the laws between buffers and sheets.
 -- Assumes nothing.
-use Prim.Native.Nat.{ℕ, _+_, _/_}
+use Prim.Native.Nat.{ℕ, _/_}
 use mathlib.Core.Path.{_≡_, refl, sym, ap, _∙_}
 use mathlib.Core.Bool.{Bool, true, false, cond}
 use mathlib.Core.List.{List, List·Memᴰ}
 use native.Mathlib.Omega.{arith}
-use lib.ListN.{length, take, drop}
-use lib.Seq.{take-at}
+use lib.ListN.{length, take}
 use lib.Dec.{leb}
 use Rattle.pages.proofs.Laws.{valid-list, list-valid}
 use Rattle.memory.specs.Extends.{HoldsPages}
@@ -16,6 +15,7 @@ use Rattle.replay.specs.Run.{checkBy}
 use Rattle.replay.specs.declared.steps.Tested.{Tested}
 use Rattle.replay.specs.declared.steps.Tested.the-variants.{Passed, Failed}
 use Rattle.numbers.specs.Buffers.{laid}
+use Rattle.numbers.proofs.Laws.{laid-front}
 use Rattle.sheet.specs.Sheets.{Page, Saved, WholePages, pagesOf, ascended, savedOf, entriesOf, bytesOf, text}
 use Rattle.sheet.specs.Reading.{Parsed, sheet, noSheet, parsed}
 use Rattle.sheet.proofs.TestedLaws.{Passes, passes, passed}
@@ -32,11 +32,6 @@ use Rattle.sheet_claims.proofs.RoundTripsProof.{reads-back, writes-back
 use Rattle.sheet_claims.proofs.SavedLaws.{lent-sheeted, ascended-valid, pages-back, saved-back}
 use Rattle.sheet_claims.proofs.LentPages.{held-lent}
 use Rattle.sheet_claims.proofs.Ordered.{every-map, every-self, every-ascended, mem-ascended}
-
--- what was laid at the front of a buffer is its front
-front : (out piece : List ℕ) (n : ℕ) → length piece ≡ n → take n (laid out 0 piece) ≡ piece
-unfolding laid
-front out piece n e = take-at piece (drop (0 + length piece) out) n e
 
 -- ---- a write that is done, and one that is not
 
@@ -160,7 +155,7 @@ written-read state pages bytes words out lent long small-state small-pages small
     let was = write-was (checkBy pages (length bytes) (goodState state) (length words)) (text s) out long e in
     let has = passes pages (length bytes) (goodState state) (length words) (was .good) in
     let sheeted = saved-sheeted state pages bytes words small-state small-pages small-bytes small-words (was .good) in
-    rw (was .left, front out (text s) long (was .whole-long), reads-back s sheeted, again state pages bytes words has)
+    rw (was .left, laid-front out (text s) long (was .whole-long), reads-back s sheeted, again state pages bytes words has)
 
 -- the pages of the run are the lent ones, in their order
 same-pages : (pages bytes : List ℕ) → let ps : List Page = ascended (pagesOf pages bytes) in
@@ -181,17 +176,17 @@ pages-read-back state pages bytes words out lent long sizes small-state small-pa
     let sheeted = saved-sheeted state pages bytes words small-state small-pages small-bytes small-words (written .good) in
     let back : List ℕ = take long ((writes state pages bytes words out) .text) in
     let was = read-was back lent sizes read in
-    let again-read : parsed back ≡ sheet s = rw (written .left, front out (text s) long (written .whole-long)) (reads-back s sheeted) in
+    let again-read : parsed back ≡ sheet s = rw (written .left, laid-front out (text s) long (written .whole-long)) (reads-back s sheeted) in
     let both-read : sheet (was .saved) ≡ sheet s = sym (was .from) ∙ again-read in
     let same : was .saved ≡ s = cc in
     let pages-are : take (sizes .pages) ((reads back lent) .buffers .pages) ≡ entriesOf (s .pages)
     = ap (λ (b : Buffers). take (sizes .pages) (b .pages)) (was .left)
-    ∙ front (lent .pages) (entriesOf (was .saved .pages)) (sizes .pages) (ap (λ (z : Sizes). z .pages) (was .long))
+    ∙ laid-front (lent .pages) (entriesOf (was .saved .pages)) (sizes .pages) (ap (λ (z : Sizes). z .pages) (was .long))
     ∙ ap (λ (r : Saved). entriesOf (r .pages)) same
     in
     let bytes-are : take (sizes .bytes) ((reads back lent) .buffers .bytes) ≡ bytesOf (s .pages)
     = ap (λ (b : Buffers). take (sizes .bytes) (b .bytes)) (was .left)
-    ∙ front (lent .bytes) (bytesOf (was .saved .pages)) (sizes .bytes) (ap (λ (z : Sizes). z .bytes) (was .long))
+    ∙ laid-front (lent .bytes) (bytesOf (was .saved .pages)) (sizes .bytes) (ap (λ (z : Sizes). z .bytes) (was .long))
     ∙ ap (λ (r : Saved). bytesOf (r .pages)) same
     in
     rw (pages-are, bytes-are) (same-pages pages bytes (sheeted .pages))
@@ -204,8 +199,8 @@ read-written t out lent sizes e =
     let was = read-was t lent sizes e in
     let s : Saved = was .saved in
     let back = writes-back t s (was .from) in
-    let state-is = front (lent .state) (s .state) fields (back .0 .fields) in
-    let pages-are = front (lent .pages) (entriesOf (s .pages)) (sizes .pages) (ap (λ (z : Sizes). z .pages) (was .long)) in
-    let bytes-are = front (lent .bytes) (bytesOf (s .pages)) (sizes .bytes) (ap (λ (z : Sizes). z .bytes) (was .long)) in
-    let words-are = front (lent .words) (s .words) (sizes .words) (ap (λ (z : Sizes). z .words) (was .long)) in
+    let state-is = laid-front (lent .state) (s .state) fields (back .0 .fields) in
+    let pages-are = laid-front (lent .pages) (entriesOf (s .pages)) (sizes .pages) (ap (λ (z : Sizes). z .pages) (was .long)) in
+    let bytes-are = laid-front (lent .bytes) (bytesOf (s .pages)) (sizes .bytes) (ap (λ (z : Sizes). z .bytes) (was .long)) in
+    let words-are = laid-front (lent .words) (s .words) (sizes .words) (ap (λ (z : Sizes). z .words) (was .long)) in
     rw (was .left, state-is, pages-are, bytes-are, words-are, was .good, saved-back s (back .0), back .1)

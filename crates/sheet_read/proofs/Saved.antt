@@ -1,13 +1,12 @@
 -- The run of a sheet by its shape: how long each part is, how it is tested, what lies in the buffers after it. Assumes nothing.
-use Prim.Native.Nat.{ℕ, _+_, _*_, _<_, _≤_}
+use Prim.Native.Nat.{ℕ, _*_, _<_, _≤_}
 use mathlib.Core.Path.{_≡_, sym, ap, _∙_}
 use mathlib.Core.Bool.{true, false}
 use mathlib.Core.List.{List}
 use native.Mathlib.Omega.{arith}
 use lib.Dec.{leb}
 use borrow.Author.Tests.{leb-true}
-use lib.ListN.{length, take, drop}
-use lib.Seq.{take-at}
+use lib.ListN.{length, drop}
 use Rattle.numbers.specs.Buffers.{laid}
 use Rattle.pages.specs.Pages.{pageBytes, pageLimit}
 use Rattle.processor.specs.Layout.{fields, goodState}
@@ -31,12 +30,6 @@ use Rattle.sheet_read.specs.declared.stage.Stage.{Stage}
 use Rattle.sheet_read.specs.declared.scan.Shape.{Shape}
 use Rattle.sheet_read.proofs.Leads.{numbers-length}
 use Rattle.sheet_read.proofs.Pages.{entries-kept, bytes-length}
-
--- ---- a piece at the front of a buffer
-
-pub laid-front : (out piece : List ℕ) (n : ℕ) → length piece ≡ n → take n (laid out 0 piece) ≡ piece
-unfolding laid
-laid-front out piece n long = take-at piece (drop (0 + length piece) out) n long
 
 -- every part fits its buffer
 pub room-parts : (sizes : Sizes) (state pages bytes words : ℕ) → roomFor sizes state pages bytes words ≡ true → (fields ≤ state) × (sizes .pages ≤ pages) × (sizes .bytes ≤ bytes) × (sizes .words ≤ words)

@@ -10,8 +10,8 @@ use Rattle.numbers.specs.Numbers.{inside}
 use Rattle.numbers.proofs.Laws.{ends-inside, laid-if, laid-unless}
 use Rattle.sheet.specs.Digits.{lineFeed}
 use Rattle.sheet.specs.Lines.{lineOf}
-use Rattle.sheet.proofs.LineLaws.{fields-length}
-use Rattle.sheet.proofs.Turns.{line-long, line-out, line-laid}
+use Rattle.sheet.proofs.LineLaws.{fields-length, line-long}
+use Rattle.sheet.proofs.Turns.{line-out, line-laid}
 use borrow.Author.Needs.{needs}
 use Rattle.sheet.proofs.put.put_line.Statement.{statement}
 use Rattle.sheet.proofs.put.put_line.Tie as tie

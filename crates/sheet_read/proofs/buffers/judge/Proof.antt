@@ -4,12 +4,13 @@ use mathlib.Core.Path.{_≡_, sym, _∙_, ap, ap₂}
 use mathlib.Core.Bool.{Bool}
 use mathlib.Core.List.{List}
 use lib.ListN.{length, take}
+use Rattle.numbers.proofs.Laws.{laid-front}
 use Rattle.pages.specs.Pages.{pageBytes}
 use Rattle.instructions.specs.Instruction.{instructionWords}
 use Rattle.replay.specs.Run.{checkBy}
 use Rattle.sheet.specs.declared.line.Line.the-variants.{Page}
 use Rattle.sheet_read.specs.Scan.{numbersIn}
-use Rattle.sheet_read.proofs.Saved.{laid-front, pages-long, too-many-pages, tested-is}
+use Rattle.sheet_read.proofs.Saved.{pages-long, too-many-pages, tested-is}
 use borrow.Author.Needs.{needs}
 use Rattle.sheet_read.proofs.buffers.judge.Statement.{statement}
 use Rattle.sheet_read.proofs.buffers.judge.Tie as tie
