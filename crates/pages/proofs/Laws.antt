@@ -8,6 +8,7 @@
 -- Where a page lies:
 --     page-and-offset                      an address is its page's address and the offset there
 --     page-end                             a page of 64-bit addresses ends at 2^64 or before
+--     number-room                          and its number has room for one more
 -- Page lists:
 --     none-passes, each-fails              no entry passes a test (`anyEntry`), exactly where none passes at any place (`EachFails`)
 --     once-apart, apart-once               no page address stands twice (`repeated`), exactly where entries of one page are one entry (`Apart`)
@@ -17,4 +18,4 @@
 -- Assumes nothing.
 
 pub use Rattle.pages.proofs.Moves.{plus-below, minus-below, plus-aligned, minus-aligned, plus-back, plus-twice, minus-back, moves-add}
-pub use Rattle.pages.proofs.Lists.{neither, page-and-offset, page-end, EachFails, none-passes, each-fails, Apart, once-apart, apart-once, ValidList, valid-list, list-valid, too-many-entries}
+pub use Rattle.pages.proofs.Lists.{neither, page-and-offset, page-end, number-room, EachFails, none-passes, each-fails, Apart, once-apart, apart-once, ValidList, valid-list, list-valid, too-many-entries}

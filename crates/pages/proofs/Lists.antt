@@ -7,7 +7,7 @@ use native.Mathlib.Omega.{arith}
 use lib.ListN.{length, getD}
 use lib.Dec.{eqb, ltb}
 use borrow.Author.Tests.{lt-ltb, le-ltb, eq-eqb, ne-eqb, eqb-true, eqb-false, ltb-false, not-false}
-use Rattle.pages.specs.Pages.{pageBytes, pageLimit, pageOf, wrongLength, badKind, badAddress, onPage, anyEntry, repeated, listing}
+use Rattle.pages.specs.Pages.{pageBytes, pageLimit, pageOf, pageNumber, wrongLength, badKind, badAddress, onPage, anyEntry, repeated, listing}
 use Rattle.pages.specs.declared.pages.Listing.the-variants.{Valid, BadLength, BadKind, BadAddress, Repeated}
 
 -- ---- a page
@@ -21,6 +21,11 @@ page-and-offset n = omega arith
 pub page-end : (n : ℕ) → n < 2 ^ 64 → pageOf n + pageBytes ≤ 2 ^ 64
 unfolding pageOf
 page-end n h = omega arith
+
+-- and its number has room for one more
+pub number-room : (n : ℕ) → n < 2 ^ 64 → pageNumber n + 1 < 2 ^ 64
+unfolding pageNumber
+number-room n h = omega arith
 
 -- ---- a test of every entry
 

@@ -1,19 +1,16 @@
 -- A line that stands at a place of a text: the lines from there on, its end, its numbers. Assumes nothing.
-use Prim.Native.Nat.{ℕ, _+_, _*_, _^_, _<_, _≤_}
+use Prim.Native.Nat.{ℕ, _+_, _*_, _<_, _≤_}
 use mathlib.Core.Path.{_≡_, sym, ap, _∙_}
 use mathlib.Core.Bool.{true}
 use mathlib.Core.List.{List, _∷_}
 use native.Mathlib.Omega.{arith}
 use lib.ListN.{length, take, drop, length-drop}
 use lib.Seq.{drop-drop}
-use Rattle.pages.specs.Pages.{pageNumber}
-use Rattle.sheet.specs.Digits.{Below}
 use Rattle.sheet.specs.Lines.{lines, begins, form, numeral, first, width, fieldCount, isLine}
 use Rattle.sheet.specs.Reading.{value}
 use Rattle.sheet.specs.declared.digits.Numeral.the-variants.{Number, NoNumber}
 use Rattle.sheet.specs.declared.line.Line.{Line}
-use Rattle.sheet.specs.declared.line.Line.the-variants.{Page}
-use Rattle.sheet.proofs.LineLaws.{line-room, next-line, lines-step, line-numeral, values-below}
+use Rattle.sheet.proofs.LineLaws.{line-room, next-line, lines-step, line-numeral}
 
 module _ (kind : Line) (t : List ℕ) (at : ℕ) (begun : begins (form kind) (drop at t) ≡ true) where
   pub line-past : at + width kind ≤ length t
@@ -40,8 +37,3 @@ number-same e = cc
 
 pub number-there : {v w : ℕ} → Number w ≡ NoNumber → v ≡ w
 number-there e = let z : _≡_ {A = ℕ} 0 1 = cc in absurd (omega arith)
-
--- the number of a page has room for one more
-pub page-number-room : (l : List ℕ) → pageNumber (value Page 0 l) + 1 < 2 ^ 64
-unfolding pageNumber Below
-page-number-room l = let small = values-below Page l 0 in omega arith

@@ -1,5 +1,5 @@
 -- The lines that are still to be laid, from a turn of each loop on. Assumes nothing.
-use Prim.Native.Nat.{ℕ, suc, _+_, _-_, _*_, _/_, _^_, _<_, _≤_}
+use Prim.Native.Nat.{ℕ, suc, _+_, _-_, _*_, _/_, _<_, _≤_}
 use mathlib.Core.Path.{_≡_, refl, sym, _∙_, ap, ap₂}
 use mathlib.Core.List.{List, [], _∷_, _++_}
 use mathlib.Core.Logic.{⊎-elim}
@@ -136,8 +136,3 @@ entry-text pass entry page e = rw e (joined-one (line PageLine (entry ∷ [])))
 pub values-text : (pass : Pass) (entry : ℕ) (page : List ℕ) (base : ℕ) → pass ≡ Values → base ≡ pageOf entry
     → joined (linesOf pass (record { entry = entry; bytes = page })) ≡ joined (wordLines base slots page)
 values-text pass entry page base e base-is = rw (e, base-is)
-
--- the number of a page has room for one more
-pub page-number-room : (entry page-number : ℕ) → entry < 2 ^ 64 → page-number ≡ pageNumber entry → page-number + 1 < 2 ^ 64
-unfolding pageNumber
-page-number-room entry page-number h page-number-is = omega arith

@@ -6,10 +6,13 @@ use mathlib.Core.List.{List}
 use native.Mathlib.Omega.{arith}
 use lib.ListN.{length, take, drop}
 use borrow.Author.Needs.{needs}
+use Rattle.pages.proofs.Laws.{number-room}
+use Rattle.sheet.specs.Digits.{Below}
 use Rattle.sheet.specs.Lines.{lines, begins, form, width}
 use Rattle.sheet.specs.Reading.{pageCount}
 use Rattle.sheet.specs.declared.line.Line.the-variants.{Page}
-use Rattle.sheet_read.proofs.Places.{line-past, page-number-room}
+use Rattle.sheet.proofs.LineLaws.{values-below}
+use Rattle.sheet_read.proofs.Places.{line-past}
 use Rattle.sheet_read.proofs.Stages.{counted-turn, counted-end, page-turn, page-low, page-end}
 use Rattle.sheet_read.proofs.scan.count_pages.Statement.{statement}
 use Rattle.sheet_read.proofs.scan.count_pages.Tie as tie
@@ -56,10 +59,11 @@ returns c =
     (page-low (text at-loop) (at-loop .loop .here) _ _ (begun then1) (c .before .before .field .ensures) (rw (c .before .page-number .ensures) at (c .if2 .taken)))
 
 add-least : tie.Need-add-least Inv-loop μ-loop
+unfolding Below
 add-least c =
     let after-field = c .before .before in
     let at-loop = after-field .before .before .before in
-    let small = page-number-room (take (width Page) (drop (at-loop .loop .here) (text at-loop))) in
+    let small = number-room _ (values-below Page (take (width Page) (drop (at-loop .loop .here) (text at-loop))) 0) in
     rw (c .before .page-number .ensures, after-field .field .ensures) (omega (arith, small))
 
 add-n : tie.Need-add-n Inv-loop μ-loop
