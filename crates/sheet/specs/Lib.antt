@@ -3,5 +3,6 @@
 -- `[]` is the empty one, `length` counts, `replicate n x` is n times x.
 pub mod Digits
 pub mod Lines
+pub mod Lent
 pub mod Sheets
 pub mod Reading

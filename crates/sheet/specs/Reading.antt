@@ -92,19 +92,17 @@ pastPages (entry ∷ entries) ls = pastPages entries (pastSlots (pageOf entry) s
 
 -- how the lines after `sheet` and `state` are shared out
 pub record Stages : Type 0 where
-  pub entries : List ℕ
   pub pages : List Page
   pub words : List ℕ
   pub left : List (List ℕ)
 
-abbrev pub doStage : List ℕ → List Page → List (List ℕ) → Stages
-doStage entries pages ls = record { entries = entries; pages = pages; words = plainNumbers Do ls; left = pastPlain Do ls }
-
-abbrev pub wordStage : List ℕ → List (List ℕ) → Stages
-wordStage entries ls = doStage entries (pagesIn entries ls) (pastPages entries ls)
-
+-- each stage begins behind the one before it
 unfoldable pub stages : List (List ℕ) → Stages
-stages ls = wordStage (numbers PageLine (take (pageCount 0 ls) ls)) (drop (pageCount 0 ls) ls)
+stages ls =
+    let entries : List ℕ = numbers PageLine (take (pageCount 0 ls) ls) in
+    let behindPages : List (List ℕ) = drop (pageCount 0 ls) ls in
+    let behindWords : List (List ℕ) = pastPages entries behindPages in
+    record { pages = pagesIn entries behindPages; words = plainNumbers Do behindWords; left = pastPlain Do behindWords }
 
 -- nothing may be left over; `all` is how many lines there are
 abbrev pub finished : List ℕ → ℕ → Stages → Parsed

@@ -10,6 +10,7 @@ use Rattle.pages.specs.Pages.{pageBytes, pageOf, pageNumber}
 use Rattle.numbers.specs.Numbers.{numberAt}
 use Rattle.sheet.specs.Digits.{Below}
 use Rattle.sheet.specs.Lines.{fieldCount, line, joined}
+use Rattle.sheet.specs.Lent.{Buffers}
 use Rattle.sheet.specs.declared.line.Line.{Line}
 use Rattle.sheet.specs.declared.line.Line.the-variants.{Sheet, State as StateLine, Page as PageLine, Word, Do}
 
@@ -121,8 +122,8 @@ ascended [] = []
 ascended (p ∷ ps) = insert p (ascended ps)
 
 -- what is saved of these buffers
-unfoldable pub savedOf : List ℕ → List ℕ → List ℕ → List ℕ → Saved
-savedOf state entries bytes words = record { state = state; pages = ascended (pagesOf entries bytes); words = words }
+unfoldable pub savedOf : Buffers → Saved
+savedOf run = record { state = run .state; pages = ascended (pagesOf (run .pages) (run .bytes)); words = run .words }
 
 -- ---- to the lent buffers
 
@@ -133,3 +134,7 @@ entriesOf (p ∷ ps) = p .entry ∷ entriesOf ps
 unfoldable pub bytesOf : List Page → List ℕ
 bytesOf [] = []
 bytesOf (p ∷ ps) = p .bytes ++ bytesOf ps
+
+-- the run of a sheet, as it is read
+abbrev pub buffersOf : Saved → Buffers
+buffersOf s = record { state = s .state; pages = entriesOf (s .pages); bytes = bytesOf (s .pages); words = s .words }

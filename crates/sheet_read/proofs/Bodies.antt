@@ -9,15 +9,17 @@ use lib.ListN.{length, take, drop, length-drop, drop-of-length-le}
 use borrow.Author.Tests.{ne-eqb}
 use Rattle.sheet.specs.Lines.{lines, joined, begins, form, width, values, isLine}
 use Rattle.sheet.specs.Sheets.{version}
-use Rattle.sheet.specs.Reading.{noSheet, next, value, numbers, plainCount, pageCount, pagesIn, stages, finished, parsedBody, parsedBy, parsedLines, parsed}
-use Rattle.sheet.specs.declared.line.Line.the-variants.{Sheet, State, Page, Word, Do}
+use Rattle.sheet.specs.Reading.{noSheet, next, value, numbers, stages, finished, parsedBody, parsedBy, parsedLines, parsed}
+use Rattle.sheet.specs.declared.line.Line.{Line}
+use Rattle.sheet.specs.declared.line.Line.the-variants.{Sheet, State, Page, Do}
 use Rattle.sheet.proofs.LineLaws.{next-line, lines-step, joined-lines}
-use Rattle.sheet_read.specs.Scan.{Stands, endOf, numbersIn, wordCount, savedAt, Headed, Shaped}
+use Rattle.sheet_read.specs.Scan.{Lead, endOf, behind, numbersIn, Found, Headed, Staged, savedAt, Shaped}
 use Rattle.sheet_read.specs.declared.stage.Stage.{Stage}
+use Rattle.sheet_read.specs.declared.scan.Shape.{Shape}
 use Rattle.sheet_read.proofs.Leads.{lead-one, lead-front, lead-end, lead-past, lead-left, numbers-turn, numbers-none}
 use Rattle.sheet_read.proofs.Places.{line-past, lines-at, is-line}
 use Rattle.sheet_read.proofs.Pages.{stage}
-use Rattle.sheet_read.proofs.Stages.{lead-pages, lead-words, lead-plain, words-past}
+use Rattle.sheet_read.proofs.Stages.{words-past}
 
 -- ---- the first two lines
 
@@ -83,7 +85,7 @@ module _ (t : List ℕ) (state : Stage) (head : Headed t state) where
   two-lines : lines (drop (width Sheet) t) ≡ take (width State) (drop (width Sheet) t) ∷ lines (drop (endOf State state) t)
   two-lines = rw (← body-at, head .behind) (lines-at State t (width Sheet) state-begun)
 
-  body-is : parsed t ≡ finished (numbersIn State state t) (suc (suc (length (lines (drop (endOf State state) t))))) (stages (lines (drop (endOf State state) t)))
+  body-is : parsed t ≡ finished (numbersIn State state t) (suc (suc (length (behind State state t)))) (stages (behind State state t))
   unfolding parsed parsedLines parsedBy parsedBody
   body-is =
       rw (head .head, head .version, lines-step Sheet t (sym (next-line Sheet t) ∙ head .head), two-lines, is-line State t (width Sheet) state-begun, fields-are)
@@ -101,87 +103,49 @@ some-left t at inside = ne-eqb _ _ (λ e. go (lines (drop at t)) (joined-lines (
     go [] e none = let long = length-drop at t in let nothing = ap length e in omega arith
     go (l ∷ ls) e none = omega arith
 
--- the number of the first line left over, behind two and those of each stage
-behind-all : (n w d left : ℕ) {body words steps : ℕ} → body ≡ n + words → words ≡ w + steps → steps ≡ d + left → suc (suc (suc body) - left) ≡ 3 + n + w + d
-behind-all n w d left e f g = omega arith
+-- ---- a stage that was found
 
--- the stages, by the lines that each begins with
-stages-by : (body words steps left : List (List ℕ)) (n w d : ℕ)
-    → n ≡ pageCount 0 body → words ≡ drop n body
-    → w ≡ wordCount (numbers Page (take n body)) words → steps ≡ drop w words
-    → d ≡ plainCount Do steps → left ≡ drop d steps
-    → stages body ≡ record { entries = numbers Page (take n body); pages = pagesIn (numbers Page (take n body)) words; words = numbers Do (take d steps); left = left }
-unfolding stages
-stages-by body words steps left n w d n-is words-is w-is steps-is d-is left-is =
-    rw (← n-is, ← words-is, words-past (numbers Page (take n body)) words, ← w-is, ← steps-is, ← d-is, ← left-is)
+module _ {kind : Line} {n : ℕ} {t : List ℕ} {at : ℕ} {stage : Stage} (found : Found kind n t at stage) where
+  found-numbers : numbers kind (take n (lines (drop at t))) ≡ numbersIn kind stage t
+  unfolding numbersIn
+  found-numbers = rw (← found .begun, ← found .counted)
 
--- each stage where the one before it ends, and as long as it is counted
-module _ (t : List ℕ) (state : Stage) (head : Headed t state) (pages : Stage) (pages-at : pages .at ≡ endOf State state)
-    (pages-are : pages .count ≡ pageCount 0 (lines (drop (pages .at) t))) where
-  pub pages-stand : Stands Page pages t
-  pages-stand = rw pages-are (lead-pages 0 (lines (drop (pages .at) t)))
+  found-past : drop n (lines (drop at t)) ≡ behind kind stage t
+  found-past = rw (← found .begun, ← found .counted) (sym (lead-past kind (stage .count) t (stage .at) (found .stands)))
 
-  pub pages-in : pages .at ≤ length t
-  pages-in = rw pages-at (body-in t state head)
+  found-left : length (lines (drop at t)) ≡ stage .count + length (behind kind stage t)
+  found-left = rw (← found .begun) (lead-left kind (stage .count) t (stage .at) (found .stands))
 
-  pub pages-end : endOf Page pages ≤ length t
-  pages-end = lead-end Page (pages .count) t (pages .at) pages-stand pages-in
+pub found : (kind : Line) (n : ℕ) (t : List ℕ) (at count : ℕ) → at ≤ length t → count ≡ n → Lead kind n (lines (drop at t)) → Found kind n t at (stage at count)
+found kind n t at count inside counted stands =
+    record { begun = refl; counted = counted; stands = rw counted stands; end = rw counted (lead-end kind n t at stands inside) }
 
-  module _ (words : Stage) (words-at : words .at ≡ endOf Page pages)
-      (words-are : words .count ≡ wordCount (numbersIn Page pages t) (lines (drop (words .at) t))) where
-    words-stand : Stands Word words t
-    words-stand = rw words-are (lead-words (numbersIn Page pages t) (lines (drop (words .at) t)))
+-- ---- all stages
 
-    pub words-in : words .at ≤ length t
-    words-in = rw words-at pages-end
+module _ (t : List ℕ) (shape : Shape) (s : Staged t shape) where
+  stages-are : stages (behind State (shape .state) t)
+      ≡ record { pages = savedAt t shape .pages; words = savedAt t shape .words; left = behind Do (shape .steps) t }
+  unfolding stages savedAt
+  stages-are =
+      rw (
+        found-numbers (s .pages),
+        found-past (s .pages),
+        words-past (numbersIn Page (shape .pages) t) (behind Page (shape .pages) t),
+        found-past (s .words),
+        found-numbers (s .steps),
+        found-past (s .steps),
+        s .words .begun,
+      )
 
-    pub words-end : endOf Word words ≤ length t
-    words-end = lead-end Word (words .count) t (words .at) words-stand words-in
+  pub whole-sheet : endOf Do (shape .steps) ≡ length t → Shaped t shape
+  unfolding savedAt
+  whole-sheet end = record { staged = s; saved = rw (body-is t (shape .state) (s .head), stages-are, none-left t (endOf Do (shape .steps)) end) }
 
-    module _ (steps : Stage) (steps-at : steps .at ≡ endOf Word words) (steps-are : steps .count ≡ plainCount Do (lines (drop (steps .at) t))) where
-      steps-stand : Stands Do steps t
-      steps-stand = rw steps-are (lead-plain Do (lines (drop (steps .at) t)))
-
-      pub steps-end : endOf Do steps ≤ length t
-      steps-end = lead-end Do (steps .count) t (steps .at) steps-stand (rw steps-at words-end)
-
-      stages-are : stages (lines (drop (endOf State state) t))
-          ≡ record {
-            entries = numbersIn Page pages t;
-            pages = pagesIn (numbersIn Page pages t) (lines (drop (words .at) t));
-            words = numbersIn Do steps t;
-            left = lines (drop (endOf Do steps) t);
-          }
-      unfolding numbersIn
-      stages-are =
-          rw (← pages-at)
-          (stages-by (lines (drop (pages .at) t)) (lines (drop (words .at) t)) (lines (drop (steps .at) t)) (lines (drop (endOf Do steps) t))
-          (pages .count) (words .count) (steps .count)
-          pages-are (rw words-at (lead-past Page (pages .count) t (pages .at) pages-stand))
-          words-are (rw steps-at (lead-past Word (words .count) t (words .at) words-stand))
-          steps-are (lead-past Do (steps .count) t (steps .at) steps-stand))
-
-      pub whole-sheet : endOf Do steps ≡ length t → Shaped t (record { state = state; pages = pages; words = words; steps = steps })
-      unfolding savedAt
-      whole-sheet end =
-          record {
-            one = head .one;
-            state = head .stands;
-            pages-in = pages-in;
-            pages = pages-stand;
-            words-in = words-in;
-            steps = steps-stand;
-            steps-in = steps-end;
-            saved = rw (body-is t state head, stages-are, none-left t (endOf Do steps) end);
-          }
-
-      pub left-over : (endOf Do steps ≡ length t → ⊥) → parsed t ≡ noSheet (3 + pages .count + words .count + steps .count)
-      left-over more =
-          let inside : endOf Do steps < length t = omega (arith, steps-end) in
-          rw (body-is t state head, stages-are, some-left t (endOf Do steps) inside)
-          (ap noSheet
-          (behind-all (pages .count) (words .count) (steps .count) (length (lines (drop (endOf Do steps) t)))
-          {words = length (lines (drop (words .at) t))} {steps = length (lines (drop (steps .at) t))}
-          (rw (← pages-at, words-at) (lead-left Page (pages .count) t (pages .at) pages-stand))
-          (rw steps-at (lead-left Word (words .count) t (words .at) words-stand))
-          (lead-left Do (steps .count) t (steps .at) steps-stand)))
+  pub left-over : (endOf Do (shape .steps) ≡ length t → ⊥) → parsed t ≡ noSheet (3 + shape .pages .count + shape .words .count + shape .steps .count)
+  left-over more =
+      let within = s .steps .end in
+      let inside : endOf Do (shape .steps) < length t = omega arith in
+      let pages = found-left (s .pages) in
+      let words = found-left (s .words) in
+      let steps = found-left (s .steps) in
+      rw (body-is t (shape .state) (s .head), stages-are, some-left t (endOf Do (shape .steps)) inside) (ap noSheet (omega arith))

@@ -1,6 +1,6 @@
 -- The run of a sheet by its shape: how long each part is, how it is tested, what lies in the buffers after it. Assumes nothing.
 use Prim.Native.Nat.{ℕ, _*_, _<_, _≤_}
-use mathlib.Core.Path.{_≡_, sym, ap, _∙_}
+use mathlib.Core.Path.{_≡_, refl, sym, ap, _∙_}
 use mathlib.Core.Bool.{true, false}
 use mathlib.Core.List.{List}
 use native.Mathlib.Omega.{arith}
@@ -14,16 +14,18 @@ use Rattle.answers.specs.declared.answer.Refusal.{Refusal}
 use Rattle.answers.specs.declared.answer.Refusal.the-variants.{Length}
 use Rattle.instructions.specs.Instruction.{instructionWords}
 use Rattle.replay.specs.Run.{checkBy}
+use Rattle.replay.specs.declared.steps.Tested.{Tested}
 use Rattle.replay.specs.declared.steps.Tested.the-variants.{Passed, Failed}
 use Rattle.sheet.specs.Lines.{lines, fieldCount}
-use Rattle.sheet.specs.Sheets.{entriesOf, bytesOf}
-use Rattle.sheet.specs.Reading.{noSheet, pagesIn, parsed}
+use Rattle.sheet.specs.Lent.{Buffers, tested}
+use Rattle.sheet.specs.Sheets.{buffersOf, bytesOf}
+use Rattle.sheet.specs.Reading.{Parsed, noSheet, pagesIn, parsed}
 use Rattle.sheet.specs.declared.line.Line.{Line}
 use Rattle.sheet.specs.declared.line.Line.the-variants.{State, Page, Do}
 use Rattle.sheet.proofs.DigitLaws.{both}
 use Rattle.sheet.proofs.TestedLaws.{passes, too-many}
-use Rattle.sheet_read.specs.Reads.{Buffers, untouched, tested, sizesOf, fits, filled, byTest, reads}
-use Rattle.sheet_read.specs.Scan.{Stands, numbersIn, savedAt, sizesAt, roomFor, Shaped}
+use Rattle.sheet_read.specs.Reads.{untouched, sizesOf, fits, filled, byTest, byText, reads}
+use Rattle.sheet_read.specs.Scan.{Stands, numbersIn, savedAt, Shaped, runAt, sizesAt, roomFor}
 use Rattle.sheet_read.specs.declared.buffers.Sizes.{Sizes}
 use Rattle.sheet_read.specs.declared.buffers.Reading.the-variants.{Done, NoSheet, Refused, TooLong}
 use Rattle.sheet_read.specs.declared.stage.Stage.{Stage}
@@ -47,75 +49,71 @@ unfolding numbersIn
 numbers-long kind stage t h = numbers-length kind (stage .count) (drop (stage .at) t) h
 
 module _ (t : List ℕ) (shape : Shape) (s : Shaped t shape) where
+  run-is : buffersOf (savedAt t shape) ≡ runAt t shape
+  unfolding savedAt runAt
+  run-is = rw (entries-kept (numbersIn Page (shape .pages) t) (lines (drop (shape .words .at) t)))
+
   pub fields-long : length (numbersIn State (shape .state) t) ≡ fields
-  fields-long = numbers-long State (shape .state) t (s .state) ∙ ap (λ (n : ℕ). fields * n) (s .one)
-
-  saved-fields : length (savedAt t shape .state) ≡ fields
-  unfolding savedAt
-  saved-fields = fields-long
-
-  entries-are : entriesOf (savedAt t shape .pages) ≡ numbersIn Page (shape .pages) t
-  unfolding savedAt
-  entries-are = entries-kept (numbersIn Page (shape .pages) t) (lines (drop (shape .words .at) t))
+  fields-long = numbers-long State (shape .state) t (s .staged .head .stands) ∙ ap (λ (n : ℕ). fields * n) (s .staged .head .one)
 
   pub pages-long : length (numbersIn Page (shape .pages) t) ≡ shape .pages .count
-  pages-long = let long = numbers-long Page (shape .pages) t (s .pages) in omega arith
+  pages-long = let long = numbers-long Page (shape .pages) t (s .staged .pages .stands) in omega arith
 
-  bytes-long : length (bytesOf (savedAt t shape .pages)) ≡ pageBytes * shape .pages .count
-  unfolding savedAt
-  bytes-long = bytes-length (numbersIn Page (shape .pages) t) (lines (drop (shape .words .at) t)) ∙ ap (λ (n : ℕ). pageBytes * n) pages-long
+  bytes-long : length (bytesOf (pagesIn (numbersIn Page (shape .pages) t) (lines (drop (shape .words .at) t)))) ≡ pageBytes * shape .pages .count
+  bytes-long = rw (bytes-length (numbersIn Page (shape .pages) t) (lines (drop (shape .words .at) t)), pages-long)
 
-  words-long : length (savedAt t shape .words) ≡ instructionWords * shape .steps .count
-  unfolding savedAt
-  words-long = numbers-long Do (shape .steps) t (s .steps)
+  words-long : length (numbersIn Do (shape .steps) t) ≡ instructionWords * shape .steps .count
+  words-long = numbers-long Do (shape .steps) t (s .staged .steps .stands)
 
-  pub tested-is : tested (savedAt t shape)
+  sizes-are : sizesOf (runAt t shape) ≡ sizesAt shape
+  unfolding runAt
+  sizes-are = rw (pages-long, bytes-long, words-long)
+
+  pub tested-is : tested (runAt t shape)
       ≡ checkBy (numbersIn Page (shape .pages) t) (pageBytes * shape .pages .count) (goodState (numbersIn State (shape .state) t)) (instructionWords * shape .steps .count)
-  unfolding tested savedAt
-  tested-is = rw (entries-are, bytes-long, words-long)
+  unfolding runAt
+  tested-is = rw (bytes-long, words-long)
 
-  pub too-many-pages : pageLimit < shape .pages .count → tested (savedAt t shape) ≡ Failed Length
+  pub too-many-pages : pageLimit < shape .pages .count → tested (runAt t shape) ≡ Failed Length
   too-many-pages many = tested-is ∙ too-many _ _ _ _ (rw pages-long many)
 
-  pub few-pages : tested (savedAt t shape) ≡ Passed → shape .pages .count ≤ pageLimit
+  pub few-pages : tested (runAt t shape) ≡ Passed → shape .pages .count ≤ pageLimit
   few-pages passed = rw pages-long at (passes _ _ _ _ (sym tested-is ∙ passed) .list .few)
 
-  sizes-are : sizesOf (savedAt t shape) ≡ sizesAt shape
-  unfolding sizesOf
-  sizes-are = rw (entries-are, pages-long, bytes-long, words-long)
-
   module _ (lent : Buffers) where
-    fits-are : fits (savedAt t shape) lent ≡ roomFor (sizesAt shape) (length (lent .state)) (length (lent .pages)) (length (lent .bytes)) (length (lent .words))
-    unfolding fits roomFor
-    fits-are = rw (saved-fields, entries-are, pages-long, bytes-long, words-long)
+    fits-are : fits (runAt t shape) lent ≡ roomFor (sizesAt shape) (length (lent .state)) (length (lent .pages)) (length (lent .bytes)) (length (lent .words))
+    unfolding fits roomFor runAt
+    fits-are = rw (fields-long, pages-long, bytes-long, words-long)
 
     pub too-long : roomFor (sizesAt shape) (length (lent .state)) (length (lent .pages)) (length (lent .bytes)) (length (lent .words)) ≡ false
-        → byTest Passed (savedAt t shape) lent ≡ untouched (TooLong (sizesAt shape)) lent
+        → byTest Passed (runAt t shape) lent ≡ untouched (TooLong (sizesAt shape)) lent
     too-long none = rw (fits-are, none, sizes-are)
 
     pub loaded : roomFor (sizesAt shape) (length (lent .state)) (length (lent .pages)) (length (lent .bytes)) (length (lent .words)) ≡ true
-        → (after : Buffers) → after ≡ filled (savedAt t shape) lent → byTest Passed (savedAt t shape) lent ≡ record { answer = Done (sizesAt shape); buffers = after }
+        → (after : Buffers) → after ≡ filled (runAt t shape) lent → byTest Passed (runAt t shape) lent ≡ record { answer = Done (sizesAt shape); buffers = after }
     loaded room after after-is = rw (fits-are, room, sizes-are, after-is)
 
-    pub filled-is : filled (savedAt t shape) lent
+    pub filled-is : filled (runAt t shape) lent
         ≡ record {
           state = laid (lent .state) 0 (numbersIn State (shape .state) t);
           pages = laid (lent .pages) 0 (numbersIn Page (shape .pages) t);
           bytes = laid (lent .bytes) 0 (bytesOf (pagesIn (numbersIn Page (shape .pages) t) (lines (drop (shape .words .at) t))));
           words = laid (lent .words) 0 (numbersIn Do (shape .steps) t);
         }
-    unfolding filled savedAt
-    filled-is = rw entries-are
+    unfolding filled runAt
+    filled-is = refl
 
     -- ---- the whole answer, by the test of the run
 
-    pub refused : (refusal : Refusal) → tested (savedAt t shape) ≡ Failed refusal → reads t lent ≡ untouched (Refused refusal) lent
+    read-is : reads t lent ≡ byTest (tested (runAt t shape)) (runAt t shape) lent
     unfolding reads
-    refused refusal test = rw (s .saved, test)
+    read-is = ap (λ (p : Parsed). byText p lent) (s .saved) ∙ ap (λ (run : Buffers). byTest (tested run) run lent) run-is
 
-    pub passed : tested (savedAt t shape) ≡ Passed → reads t lent ≡ byTest Passed (savedAt t shape) lent
-    unfolding reads
-    passed test = rw (s .saved, test)
+    pub refused : (refusal : Refusal) → tested (runAt t shape) ≡ Failed refusal → reads t lent ≡ untouched (Refused refusal) lent
+    refused refusal test = read-is ∙ ap (λ (r : Tested). byTest r (runAt t shape) lent) test
+
+    pub passed : tested (runAt t shape) ≡ Passed → reads t lent ≡ byTest Passed (runAt t shape) lent
+    passed test = read-is ∙ ap (λ (r : Tested). byTest r (runAt t shape) lent) test
 
 pub no-sheet : (t : List ℕ) (line : ℕ) (lent : Buffers) → parsed t ≡ noSheet line → reads t lent ≡ untouched (NoSheet line) lent
 unfolding reads

@@ -10,10 +10,11 @@ use Rattle.pages.specs.Pages.{pageBytes, pageOf}
 use Rattle.processor.specs.Layout.{fields}
 use Rattle.instructions.specs.Instruction.{instructionWords}
 use Rattle.sheet.specs.Lines.{lines, isLine, width}
-use Rattle.sheet.specs.Sheets.{Saved, version, slots, lineCount}
-use Rattle.sheet.specs.Reading.{next, value, numbers, slotValue, pastSlot, pastSlots, pagesIn, sheet, noSheet, parsed}
+use Rattle.sheet.specs.Lent.{Buffers}
+use Rattle.sheet.specs.Sheets.{Saved, version, slots, lineCount, bytesOf}
+use Rattle.sheet.specs.Reading.{next, value, numbers, plainCount, pageCount, slotValue, pastSlot, pastSlots, pagesIn, sheet, noSheet, parsed}
 use Rattle.sheet.specs.declared.line.Line.{Line}
-use Rattle.sheet.specs.declared.line.Line.the-variants.{Sheet as SheetLine, State as StateLine, Page as PageLine, Do}
+use Rattle.sheet.specs.declared.line.Line.the-variants.{Sheet as SheetLine, State as StateLine, Page as PageLine, Word, Do}
 use Rattle.sheet_read.specs.declared.buffers.Sizes.{Sizes}
 use Rattle.sheet_read.specs.declared.stage.Stage.{Stage}
 use Rattle.sheet_read.specs.declared.scan.Shape.{Shape}
@@ -35,6 +36,10 @@ Stands kind stage t = Lead kind (stage .count) (lines (drop (stage .at) t))
 abbrev pub endOf : Line → Stage → ℕ
 endOf kind stage = stage .at + width kind * stage .count
 
+-- the lines behind it
+abbrev pub behind : Line → Stage → List ℕ → List (List ℕ)
+behind kind stage t = lines (drop (endOf kind stage) t)
+
 -- all numbers on its lines
 unfoldable pub numbersIn : Line → Stage → List ℕ → List ℕ
 numbersIn kind stage t = numbers kind (take (stage .count) (lines (drop (stage .at) t)))
@@ -51,6 +56,30 @@ unfoldable pub wordCount : List ℕ → List (List ℕ) → ℕ
 wordCount [] ls = 0
 wordCount (entry ∷ entries) ls = slotCount (pageOf entry) slots ls + wordCount entries (pastSlots (pageOf entry) slots ls)
 
+-- ---- what a scan finds
+
+-- n lines of a kind, which begin here, and end within the text
+pub record Found (kind : Line) (n : ℕ) (t : List ℕ) (at : ℕ) (stage : Stage) : Type 0 where
+  pub begun : stage .at ≡ at
+  pub counted : stage .count ≡ n
+  pub stands : Stands kind stage t
+  pub end : endOf kind stage ≤ length t
+
+-- the version is good, and one state stands behind it
+pub record Headed (t : List ℕ) (state : Stage) : Type 0 where
+  pub head : isLine SheetLine (next (lines t)) ≡ true
+  pub version : value SheetLine 0 (next (lines t)) ≡ version
+  pub behind : state .at ≡ width SheetLine
+  pub one : state .count ≡ 1
+  pub stands : Stands StateLine state t
+
+-- the stages of a sheet: each is found where the one before it ends
+pub record Staged (t : List ℕ) (shape : Shape) : Type 0 where
+  pub head : Headed t (shape .state)
+  pub pages : Found PageLine (pageCount 0 (behind StateLine (shape .state) t)) t (endOf StateLine (shape .state)) (shape .pages)
+  pub words : Found Word (wordCount (numbersIn PageLine (shape .pages) t) (behind PageLine (shape .pages) t)) t (endOf PageLine (shape .pages)) (shape .words)
+  pub steps : Found Do (plainCount Do (behind Word (shape .words) t)) t (endOf Word (shape .words)) (shape .steps)
+
 -- ---- a whole sheet
 
 -- the run of a sheet of this shape
@@ -62,6 +91,27 @@ savedAt t shape =
       words = numbersIn Do (shape .steps) t;
     }
 
+-- a sheet of this shape
+pub record Shaped (t : List ℕ) (shape : Shape) : Type 0 where
+  pub staged : Staged t shape
+  pub saved : parsed t ≡ sheet (savedAt t shape)
+
+abbrev pub Scanned : List ℕ → Scan → Type 0
+Scanned t (Sheet shape) = Shaped t shape
+Scanned t (NoSheet line) = parsed t ≡ noSheet line
+
+-- ---- its buffers
+
+-- the same run, as it is read
+unfoldable pub runAt : List ℕ → Shape → Buffers
+runAt t shape =
+    record {
+      state = numbersIn StateLine (shape .state) t;
+      pages = numbersIn PageLine (shape .pages) t;
+      bytes = bytesOf (pagesIn (numbersIn PageLine (shape .pages) t) (lines (drop (shape .words .at) t)));
+      words = numbersIn Do (shape .steps) t;
+    }
+
 -- how much it takes
 abbrev pub sizesAt : Shape → Sizes
 sizesAt shape = record { pages = shape .pages .count; bytes = pageBytes * shape .pages .count; words = instructionWords * shape .steps .count }
@@ -70,28 +120,3 @@ sizesAt shape = record { pages = shape .pages .count; bytes = pageBytes * shape 
 unfoldable pub roomFor : Sizes → ℕ → ℕ → ℕ → ℕ → Bool
 roomFor sizes state pages bytes words =
     leb fields state && (leb (sizes .pages) pages && (leb (sizes .bytes) bytes && leb (sizes .words) words))
-
--- ---- what a scan finds
-
--- the version is good, and one state stands behind it
-pub record Headed (t : List ℕ) (state : Stage) : Type 0 where
-  pub head : isLine SheetLine (next (lines t)) ≡ true
-  pub version : value SheetLine 0 (next (lines t)) ≡ version
-  pub behind : state .at ≡ width SheetLine
-  pub one : state .count ≡ 1
-  pub stands : Stands StateLine state t
-
--- a sheet of this shape: each kind of line where it must stand, within the text, and the run that it is
-pub record Shaped (t : List ℕ) (shape : Shape) : Type 0 where
-  pub one : shape .state .count ≡ 1
-  pub state : Stands StateLine (shape .state) t
-  pub pages-in : shape .pages .at ≤ length t
-  pub pages : Stands PageLine (shape .pages) t
-  pub words-in : shape .words .at ≤ length t
-  pub steps : Stands Do (shape .steps) t
-  pub steps-in : endOf Do (shape .steps) ≤ length t
-  pub saved : parsed t ≡ sheet (savedAt t shape)
-
-abbrev pub Scanned : List ℕ → Scan → Type 0
-Scanned t (Sheet shape) = Shaped t shape
-Scanned t (NoSheet line) = parsed t ≡ noSheet line

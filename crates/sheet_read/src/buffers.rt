@@ -7,8 +7,9 @@ ghost use Rattle.instructions.specs.Instruction.{instructionWords};
 ghost use Rattle.processor.specs.Layout.{fields, goodState};
 ghost use Rattle.replay.specs.declared.steps.Tested.the-variants.{Passed};
 ghost use Rattle.sheet.specs.declared.line.Line.the-variants.{State as StateLine};
-ghost use Rattle.sheet_read.specs.Scan.{numbersIn, savedAt, roomFor, Shaped};
-ghost use Rattle.sheet_read.specs.Reads.{tested, filled, byTest, reads};
+ghost use Rattle.sheet.specs.Lent.{tested};
+ghost use Rattle.sheet_read.specs.Scan.{numbersIn, runAt, roomFor, Shaped};
+ghost use Rattle.sheet_read.specs.Reads.{filled, byTest, reads};
 use crate::fill::fill_lines;
 use crate::fill::fill_pages;
 use crate::scan::Scan;
@@ -55,7 +56,7 @@ fn is_good(text: &[u8], shape: Shape) -> bool
 // The tests before a run: refusals 1, 2, 3, 4, 5 and 7. More pages than may be listed are not copied, and refused at once.
 fn judge(text: &[u8], shape: Shape) -> Tested
     requires { ⌜ Shaped (now text) shape ⌝ }
-    ensures { λ r. ⌜ r ≡ tested (savedAt (now (text .entry)) shape) ⌝ }
+    ensures { λ r. ⌜ r ≡ tested (runAt (now (text .entry)) shape) ⌝ }
 {
     let pages = shape.pages.count;
     if PAGE_LIMIT < pages {
@@ -98,7 +99,7 @@ fn fill_all(
     words: &mut [u64],
 )
     requires { ⌜ Shaped (now text) shape × (fields ≤ length (now state)) × (shape .pages .count ≤ length (now pages)) × (pageBytes * shape .pages .count ≤ length (now bytes)) × (instructionWords * shape .steps .count ≤ length (now words)) ⌝ }
-    ensures { λ _. ⌜ record { state = now (state .exit); pages = now (pages .exit); bytes = now (bytes .exit); words = now (words .exit) } ≡ filled (savedAt (now (text .entry)) shape) (record { state = now (state .entry); pages = now (pages .entry); bytes = now (bytes .entry); words = now (words .entry) }) ⌝ }
+    ensures { λ _. ⌜ record { state = now (state .exit); pages = now (pages .exit); bytes = now (bytes .exit); words = now (words .exit) } ≡ filled (runAt (now (text .entry)) shape) (record { state = now (state .entry); pages = now (pages .entry); bytes = now (bytes .entry); words = now (words .entry) }) ⌝ }
 {
     fill_lines(Line::State, text, shape.state, state);
     fill_lines(Line::Page, text, shape.pages, pages);
@@ -116,7 +117,7 @@ fn load(
     words: &mut [u64],
 ) -> Reading
     requires { ⌜ Shaped (now text) shape × (shape .pages .count ≤ pageLimit) ⌝ }
-    ensures { λ r. ⌜ record { answer = r; buffers = record { state = now (state .exit); pages = now (pages .exit); bytes = now (bytes .exit); words = now (words .exit) } } ≡ byTest Passed (savedAt (now (text .entry)) shape) (record { state = now (state .entry); pages = now (pages .entry); bytes = now (bytes .entry); words = now (words .entry) }) ⌝ }
+    ensures { λ r. ⌜ record { answer = r; buffers = record { state = now (state .exit); pages = now (pages .exit); bytes = now (bytes .exit); words = now (words .exit) } } ≡ byTest Passed (runAt (now (text .entry)) shape) (record { state = now (state .entry); pages = now (pages .entry); bytes = now (bytes .entry); words = now (words .entry) }) ⌝ }
 {
     let sizes = Sizes {
         pages: shape.pages.count,

@@ -6,8 +6,8 @@ ghost use Rattle.pages.specs.Pages.{pageOf};
 ghost use Rattle.sheet.specs.Lines.{lines};
 ghost use Rattle.sheet.specs.Sheets.{slots, lineCount};
 ghost use Rattle.sheet.specs.Reading.{plainCount, pageCount, slotValue};
-ghost use Rattle.sheet.specs.declared.line.Line.the-variants.{Page as PageLine};
-ghost use Rattle.sheet_read.specs.Scan.{Stands, numbersIn, slotCount, wordCount, Headed, Scanned};
+ghost use Rattle.sheet.specs.declared.line.Line.the-variants.{Page as PageLine, Word as WordLine};
+ghost use Rattle.sheet_read.specs.Scan.{Stands, numbersIn, slotCount, wordCount, Found, Headed, Staged, Scanned};
 use crate::stage::Stage;
 use crate::stage::field;
 use crate::stage::past;
@@ -32,9 +32,10 @@ pub(crate) enum Scan {
     NoSheet(usize),
 }
 
-// How many page lines there are from a place on, up to the first whose address is not above the one before it.
-fn count_pages(text: &[u8], at: usize) -> usize
-    ensures { λ r. ⌜ r ≡ pageCount 0 (lines (drop at (now (text .entry)))) ⌝ }
+// The page lines from a place on, up to the first whose address is not above the one before it.
+fn scan_pages(text: &[u8], at: usize) -> Stage
+    requires { ⌜ at ≤ length (now text) ⌝ }
+    ensures { λ r. ⌜ Found PageLine (pageCount 0 (lines (drop at (now (text .entry))))) (now (text .entry)) at r ⌝ }
 {
     let mut n: usize = 0;
     let mut least: u64 = 0;
@@ -42,13 +43,13 @@ fn count_pages(text: &[u8], at: usize) -> usize
     while Line::Page.stands(text, here) {
         let number = page_number(field(Line::Page, text, here, 0));
         if number < least {
-            return n;
+            return Stage { at, count: n };
         }
         least = number + 1;
         n += 1;
         here = past(Line::Page, here, 1);
     }
-    n
+    Stage { at, count: n }
 }
 
 // The value at an address: that of the line here, if it is this address's, else 0.
@@ -89,10 +90,10 @@ fn words_of_page(text: &[u8], at: usize, entry: u64) -> usize
     n
 }
 
-// How many lines the values of all pages take, from a place on.
-fn count_words(text: &[u8], pages: Stage, at: usize) -> usize
+// The word lines of all pages, from a place on.
+fn scan_words(text: &[u8], pages: Stage, at: usize) -> Stage
     requires { ⌜ (pages .at ≤ length (now text)) × Stands PageLine pages (now text) × (at ≤ length (now text)) ⌝ }
-    ensures { λ r. ⌜ r ≡ wordCount (numbersIn PageLine pages (now (text .entry))) (lines (drop at (now (text .entry)))) ⌝ }
+    ensures { λ r. ⌜ Found WordLine (wordCount (numbersIn PageLine pages (now (text .entry))) (lines (drop at (now (text .entry))))) (now (text .entry)) at r ⌝ }
 {
     let mut n: usize = 0;
     let mut here = at;
@@ -105,12 +106,13 @@ fn count_words(text: &[u8], pages: Stage, at: usize) -> usize
         page = past(Line::Page, page, 1);
         left -= 1;
     }
-    n
+    Stage { at, count: n }
 }
 
-// How many plain lines of a kind there are from a place on.
-fn count_plain(line: Line, text: &[u8], at: usize) -> usize
-    ensures { λ r. ⌜ r ≡ plainCount line (lines (drop at (now (text .entry)))) ⌝ }
+// The plain lines of a kind, from a place on.
+fn scan_plain(line: Line, text: &[u8], at: usize) -> Stage
+    requires { ⌜ at ≤ length (now text) ⌝ }
+    ensures { λ r. ⌜ Found line (plainCount line (lines (drop at (now (text .entry))))) (now (text .entry)) at r ⌝ }
 {
     let mut n: usize = 0;
     let mut here = at;
@@ -118,38 +120,35 @@ fn count_plain(line: Line, text: &[u8], at: usize) -> usize
         n += 1;
         here += line.width();
     }
-    n
+    Stage { at, count: n }
 }
 
-// What a text is whose version is good, and whose state stands here.
+// What a text is in which these stages are found: a sheet, or the first line left over is behind all of them.
+fn finish(text: &[u8], shape: Shape) -> Scan
+    requires { ⌜ Staged (now text) shape ⌝ }
+    ensures { λ r. ⌜ Scanned (now (text .entry)) r ⌝ }
+{
+    if past(Line::Do, shape.steps.at, shape.steps.count) != text.len() {
+        return Scan::NoSheet(3 + shape.pages.count + shape.words.count + shape.steps.count);
+    }
+    Scan::Sheet(shape)
+}
+
+// What a text is whose version is good, and whose state stands here. Each stage begins where the one before it ends.
 fn scan_body(text: &[u8], state: Stage) -> Scan
     requires { ⌜ Headed (now text) state ⌝ }
     ensures { λ r. ⌜ Scanned (now (text .entry)) r ⌝ }
 {
-    let at = past(Line::State, state.at, state.count);
-    let pages = Stage {
-        at,
-        count: count_pages(text, at),
-    };
-    let at = past(Line::Page, at, pages.count);
-    let words = Stage {
-        at,
-        count: count_words(text, pages, at),
-    };
-    let at = past(Line::Word, at, words.count);
-    let steps = Stage {
-        at,
-        count: count_plain(Line::Do, text, at),
-    };
-    if past(Line::Do, at, steps.count) != text.len() {
-        return Scan::NoSheet(3 + pages.count + words.count + steps.count);
-    }
-    Scan::Sheet(Shape {
+    let pages = scan_pages(text, past(Line::State, state.at, state.count));
+    let words = scan_words(text, pages, past(Line::Page, pages.at, pages.count));
+    let steps = scan_plain(Line::Do, text, past(Line::Word, words.at, words.count));
+    let shape = Shape {
         state,
         pages,
         words,
         steps,
-    })
+    };
+    finish(text, shape)
 }
 
 // What a text is: by the version that its first line names, of which one is known.

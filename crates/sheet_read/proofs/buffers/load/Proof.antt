@@ -3,7 +3,7 @@ use mathlib.Core.Path.{_≡_, sym, _∙_}
 use mathlib.Core.Bool.{true}
 use lib.ListN.{length}
 use borrow.Author.Tests.{not-true, not-false}
-use Rattle.sheet_read.specs.Reads.{Buffers}
+use Rattle.sheet.specs.Lent.{Buffers}
 use Rattle.sheet_read.specs.Scan.{sizesAt, roomFor}
 use Rattle.sheet_read.proofs.Saved.{room-parts, too-long, loaded}
 use borrow.Author.Needs.{needs}

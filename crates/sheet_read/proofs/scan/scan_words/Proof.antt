@@ -1,4 +1,4 @@
--- `count_words` meets its contract. The invariant: the lines counted and those of the pages from here on are all of them. Assumes nothing.
+-- `scan_words` meets its contract. The invariant: the lines counted and those of the pages from here on are all of them. Assumes nothing.
 use Prim.Native.Nat.{ℕ, _+_, _*_, _≤_}
 use mathlib.Core.Path.{_≡_, sym}
 use mathlib.Core.List.{List}
@@ -9,10 +9,11 @@ use Rattle.sheet.specs.Lines.{lines, width}
 use Rattle.sheet.specs.declared.line.Line.the-variants.{Page, Word}
 use Rattle.sheet_read.specs.Scan.{Lead, endOf, numbersIn, wordCount}
 use Rattle.sheet_read.proofs.Leads.{lead-front, lead-end, lead-next}
-use Rattle.sheet_read.proofs.Stages.{counted-turn, counted-end}
+use Rattle.sheet_read.proofs.Stages.{counted-turn, counted-end, lead-words}
+use Rattle.sheet_read.proofs.Bodies.{found}
 use Rattle.sheet_read.proofs.Pages.{stage, page-end, words-next, words-none}
-use Rattle.sheet_read.proofs.scan.count_words.Statement.{statement}
-use Rattle.sheet_read.proofs.scan.count_words.Tie as tie
+use Rattle.sheet_read.proofs.scan.scan_words.Statement.{statement}
+use Rattle.sheet_read.proofs.scan.scan_words.Tie as tie
 
 abbrev Inv-loop : tie.InvT-loop
 Inv-loop text at n₀ here₀ page₀ left₀ n here page left =
@@ -80,10 +81,13 @@ loop-again c =
     ))
 
 returns : tie.Need-returns Inv-loop μ-loop
-returns c = counted-end _ (c .before .loop .inv .0) (words-none _ (c .before .loop .left) _ _ (c .loop-test .left))
+returns c =
+    let at-loop = c .before in
+    found Word _ (text at-loop) _ _ (at-loop .before .before .pre .2)
+    (counted-end _ (at-loop .loop .inv .0) (words-none _ (at-loop .loop .left) _ _ (c .loop-test .left))) (lead-words _ _)
 
-pub count-words-spec : {M : Type 1} → statement M
-count-words-spec =
+pub scan-words-spec : {M : Type 1} → statement M
+scan-words-spec =
     tie.close
     (tie.spec
     Inv-loop

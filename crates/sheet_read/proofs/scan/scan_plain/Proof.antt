@@ -1,4 +1,4 @@
--- `count_plain` meets its contract. The invariant: the lines counted and those from here on are all of them. Assumes nothing.
+-- `scan_plain` meets its contract. The invariant: the lines counted and those from here on are all of them. Assumes nothing.
 use Prim.Native.Nat.{ℕ, _+_, _-_, _≤_}
 use mathlib.Core.Path.{_≡_, sym, _∙_}
 use mathlib.Core.Bool.{true}
@@ -10,9 +10,10 @@ use Rattle.sheet.specs.Lines.{lines, begins, form, width}
 use Rattle.sheet.specs.Reading.{plainCount}
 use Rattle.sheet.specs.declared.line.Line.{Line}
 use Rattle.sheet_read.proofs.Places.{line-past}
-use Rattle.sheet_read.proofs.Stages.{counted-turn, counted-end, plain-turn, plain-end}
-use Rattle.sheet_read.proofs.scan.count_plain.Statement.{statement}
-use Rattle.sheet_read.proofs.scan.count_plain.Tie as tie
+use Rattle.sheet_read.proofs.Stages.{counted-turn, counted-end, plain-turn, plain-end, lead-plain}
+use Rattle.sheet_read.proofs.Bodies.{found}
+use Rattle.sheet_read.proofs.scan.scan_plain.Statement.{statement}
+use Rattle.sheet_read.proofs.scan.scan_plain.Tie as tie
 
 abbrev Inv-loop : tie.InvT-loop
 Inv-loop line text at n₀ here₀ n here = (plainCount line (lines (drop at text)) ≡ n + plainCount line (lines (drop here text))) × (at + n ≤ here)
@@ -67,10 +68,12 @@ loop-again c =
 returns : tie.Need-returns Inv-loop μ-loop
 returns c =
     let at-loop = c .before .before in
-    counted-end _ (at-loop .loop .inv .0) (plain-end (kind at-loop) (text at-loop) (at-loop .loop .here) (sym (c .before .stands .ensures) ∙ c .if1 .left))
+    found (kind at-loop) _ (text at-loop) _ _ (at-loop .before .before .pre)
+    (counted-end _ (at-loop .loop .inv .0) (plain-end (kind at-loop) (text at-loop) (at-loop .loop .here) (sym (c .before .stands .ensures) ∙ c .if1 .left)))
+    (lead-plain (kind at-loop) _)
 
-pub count-plain-spec : {M : Type 1} → statement M
-count-plain-spec =
+pub scan-plain-spec : {M : Type 1} → statement M
+scan-plain-spec =
     tie.close
     (tie.spec
     Inv-loop

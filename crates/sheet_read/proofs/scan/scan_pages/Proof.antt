@@ -1,4 +1,4 @@
--- `count_pages` meets its contract. The invariant: the pages counted and those from here on are all of them. Assumes nothing.
+-- `scan_pages` meets its contract. The invariant: the pages counted and those from here on are all of them. Assumes nothing.
 use Prim.Native.Nat.{ℕ, _+_, _-_, _*_, _≤_}
 use mathlib.Core.Path.{_≡_, sym, _∙_}
 use mathlib.Core.Bool.{true}
@@ -12,10 +12,13 @@ use Rattle.sheet.specs.Lines.{lines, begins, form, width}
 use Rattle.sheet.specs.Reading.{pageCount}
 use Rattle.sheet.specs.declared.line.Line.the-variants.{Page}
 use Rattle.sheet.proofs.LineLaws.{values-below}
+use Rattle.sheet_read.specs.Scan.{Found}
 use Rattle.sheet_read.proofs.Places.{line-past}
-use Rattle.sheet_read.proofs.Stages.{counted-turn, counted-end, page-turn, page-low, page-end}
-use Rattle.sheet_read.proofs.scan.count_pages.Statement.{statement}
-use Rattle.sheet_read.proofs.scan.count_pages.Tie as tie
+use Rattle.sheet_read.proofs.Pages.{stage}
+use Rattle.sheet_read.proofs.Bodies.{found}
+use Rattle.sheet_read.proofs.Stages.{counted-turn, counted-end, page-turn, page-low, page-end, lead-pages}
+use Rattle.sheet_read.proofs.scan.scan_pages.Statement.{statement}
+use Rattle.sheet_read.proofs.scan.scan_pages.Tie as tie
 
 abbrev Inv-loop : tie.InvT-loop
 Inv-loop text at n₀ least₀ here₀ n least here = (pageCount 0 (lines (drop at text)) ≡ n + pageCount least (lines (drop here text))) × (here ≡ at + width Page * n)
@@ -31,6 +34,13 @@ stands-requires c κs = search needs
 
 abbrev text : tie.At-loop Inv-loop μ-loop → List ℕ
 text c = c .before .before .args .text .now
+
+-- none is left to count: these are the pages
+counted : (c : tie.At-loop Inv-loop μ-loop) →
+    let at = c .before .before .args .at in
+    pageCount (c .loop .least) (lines (drop (c .loop .here) (text c))) ≡ 0
+    → Found Page (pageCount 0 (lines (drop at (text c)))) (text c) at (stage at (c .loop .n))
+counted c none = found Page _ (text c) _ _ (c .before .before .pre) (counted-end _ (c .loop .inv .0) none) (lead-pages 0 _)
 
 -- a page line stands here
 begun : (c : tie.Then1 Inv-loop μ-loop) →
@@ -55,7 +65,7 @@ returns : tie.Need-returns Inv-loop μ-loop
 returns c =
     let then1 = c .before .before .before in
     let at-loop = then1 .before .before in
-    counted-end _ (at-loop .loop .inv .0)
+    counted at-loop
     (page-low (text at-loop) (at-loop .loop .here) _ _ (begun then1) (c .before .before .field .ensures) (rw (c .before .page-number .ensures) at (c .if2 .taken)))
 
 add-least : tie.Need-add-least Inv-loop μ-loop
@@ -92,10 +102,10 @@ loop-again c =
 returns-2 : tie.Need-returns-2 Inv-loop μ-loop
 returns-2 c =
     let at-loop = c .before .before in
-    counted-end _ (at-loop .loop .inv .0) (page-end (text at-loop) (at-loop .loop .here) _ (sym (c .before .stands .ensures) ∙ c .if1 .left))
+    counted at-loop (page-end (text at-loop) (at-loop .loop .here) _ (sym (c .before .stands .ensures) ∙ c .if1 .left))
 
-pub count-pages-spec : {M : Type 1} → statement M
-count-pages-spec =
+pub scan-pages-spec : {M : Type 1} → statement M
+scan-pages-spec =
     tie.close
     (tie.spec
     Inv-loop
