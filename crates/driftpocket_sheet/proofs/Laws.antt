@@ -11,13 +11,12 @@ use borrow.Author.Tests.{lt-ltb}
 use Rattle.numbers.specs.Buffers.{laid, laidIf}
 use Rattle.numbers.proofs.Laws.{laid-if}
 use Rattle.answers.specs.Answer.{roomNumber}
-use Rattle.processor.specs.Layout.{goodState}
-use Rattle.replay.specs.Run.{checkBy}
 use Rattle.replay.specs.declared.steps.Tested.{Tested}
 use Rattle.replay.specs.declared.steps.Tested.the-variants.{Passed, Failed}
-use Rattle.sheet.specs.Sheets.{Saved, savedOf, text as textOf}
+use Rattle.sheet.specs.Lent.{Buffers, tested}
+use Rattle.sheet.specs.Sheets.{savedOf, buffersOf, text as textOf}
 use Rattle.sheet.specs.Reading.{Parsed, sheet, noSheet, parsed}
-use Rattle.sheet_read.specs.Reads.{readNumber, Buffers, Read, byTest as readByTest, byText, delivered, fits, tested, reads}
+use Rattle.sheet_read.specs.Reads.{readNumber, Read, byTest as readByTest, byText, delivered, fits, reads}
 use Rattle.sheet_read.specs.declared.buffers.Reading.{Reading}
 use Rattle.sheet_read.specs.declared.buffers.Reading.the-variants.{Done as ReadDone, NoSheet, Refused as ReadRefused, TooLong as ReadTooLong}
 use Rattle.sheet_write.specs.Writes.{writeNumber, Written, byTest as writeByTest, printed, writes}
@@ -34,30 +33,27 @@ unfolding reads
 any-buffers text lent other = parsed-so (parsed text)
   where
     -- done, or too long
-    passed-so : (s : Saved) (given : Buffers) → orNoRoom (readNumber (delivered s given .answer)) ≡ roomNumber
-    passed-so s given = either (fits s given) _ _ (λ (r : Read). orNoRoom (readNumber (r .answer)) ≡ roomNumber) refl refl
+    passed-so : (run given : Buffers) → orNoRoom (readNumber (delivered run given .answer)) ≡ roomNumber
+    passed-so run given = either (fits run given) _ _ (λ (r : Read). orNoRoom (readNumber (r .answer)) ≡ roomNumber) refl refl
 
-    tested-so : (s : Saved) (t : Tested) → orNoRoom (readNumber (readByTest t s lent .answer)) ≡ orNoRoom (readNumber (readByTest t s other .answer))
-    tested-so s Passed = passed-so s lent ∙ sym (passed-so s other)
-    tested-so s (Failed refusal) = refl
+    tested-so : (run : Buffers) (t : Tested) → orNoRoom (readNumber (readByTest t run lent .answer)) ≡ orNoRoom (readNumber (readByTest t run other .answer))
+    tested-so run Passed = passed-so run lent ∙ sym (passed-so run other)
+    tested-so run (Failed refusal) = refl
 
     parsed-so : (p : Parsed) → orNoRoom (readNumber (byText p lent .answer)) ≡ orNoRoom (readNumber (byText p other .answer))
-    parsed-so (sheet s) = tested-so s (tested s)
+    parsed-so (sheet s) = tested-so (buffersOf s) (tested (buffersOf s))
     parsed-so (noSheet line) = refl
 
-any-text : (state pages bytes words out other : List ℕ)
-    → orNoRoom (writeNumber (writes state pages bytes words out .answer)) ≡ orNoRoom (writeNumber (writes state pages bytes words other .answer))
+any-text : (run : Buffers) (out other : List ℕ) → orNoRoom (writeNumber (writes run out .answer)) ≡ orNoRoom (writeNumber (writes run other .answer))
 unfolding writes printed
-any-text state pages bytes words out other = tested-so (checkBy pages (length bytes) (goodState state) (length words))
+any-text run out other = tested-so (tested run)
   where
     -- done, or too long
     passed-so : (whole given : List ℕ) → orNoRoom (writeNumber (printed whole given .answer)) ≡ roomNumber
     passed-so whole given = either (leb (length whole) (length given)) _ _ (λ (w : Written). orNoRoom (writeNumber (w .answer)) ≡ roomNumber) refl refl
 
-    tested-so : (t : Tested)
-        → orNoRoom (writeNumber (writeByTest t (textOf (savedOf state pages bytes words)) out .answer))
-        ≡ orNoRoom (writeNumber (writeByTest t (textOf (savedOf state pages bytes words)) other .answer))
-    tested-so Passed = passed-so (textOf (savedOf state pages bytes words)) out ∙ sym (passed-so (textOf (savedOf state pages bytes words)) other)
+    tested-so : (t : Tested) → orNoRoom (writeNumber (writeByTest t (textOf (savedOf run)) out .answer)) ≡ orNoRoom (writeNumber (writeByTest t (textOf (savedOf run)) other .answer))
+    tested-so Passed = passed-so (textOf (savedOf run)) out ∙ sym (passed-so (textOf (savedOf run)) other)
     tested-so (Failed refusal) = refl
 
 -- ---- a report that is too short
@@ -71,10 +67,10 @@ read-short text lent report short = rw (lt-ltb _ _ short) (ap returned (any-buff
     returned : ℕ → ReadCrossing
     returned number = record { number = number; buffers = lent; report = report }
 
-pub write-short : (state pages bytes words text report : List ℕ) → length report < writeWords
-    → record { number = orNoRoom (writeNumber (writes state pages bytes words [] .answer)); text = text; report = report } ≡ crossedWrite state pages bytes words text report
+pub write-short : (run : Buffers) (text report : List ℕ) → length report < writeWords
+    → record { number = orNoRoom (writeNumber (writes run [] .answer)); text = text; report = report } ≡ crossedWrite run text report
 unfolding crossedWrite
-write-short state pages bytes words text report short = rw (lt-ltb _ _ short) (ap returned (any-text state pages bytes words [] text))
+write-short run text report short = rw (lt-ltb _ _ short) (ap returned (any-text run [] text))
   where
     returned : ℕ → WriteCrossing
     returned number = record { number = number; text = text; report = report }

@@ -7,7 +7,8 @@ use lib.ListN.{length}
 use lib.Dec.{eqb, ltb}
 use Rattle.numbers.specs.Buffers.{laid}
 use Rattle.answers.specs.Answer.{roomNumber}
-use Rattle.sheet_read.specs.Reads.{readNumber, Buffers, Read, reads}
+use Rattle.sheet.specs.Lent.{Buffers}
+use Rattle.sheet_read.specs.Reads.{readNumber, Read, reads}
 use Rattle.sheet_read.specs.declared.buffers.Sizes.{Sizes}
 use Rattle.sheet_read.specs.declared.buffers.Reading.{Reading}
 use Rattle.sheet_read.specs.declared.buffers.Reading.the-variants.{Done as ReadDone, NoSheet, Refused as ReadRefused, TooLong as ReadTooLong}
@@ -77,7 +78,7 @@ abbrev pub writtenBy : Written → List ℕ → WriteCrossing
 writtenBy w report = record { number = writeNumber (w .answer); text = w .text; report = laid report 0 (writeReport (w .answer)) }
 
 -- likewise
-unfoldable pub crossedWrite : List ℕ → List ℕ → List ℕ → List ℕ → List ℕ → List ℕ → WriteCrossing
-crossedWrite state pages bytes words text report =
-    cond (ltb (length report) writeWords) (record { number = orNoRoom (writeNumber (writes state pages bytes words text .answer)); text = text; report = report })
-    (writtenBy (writes state pages bytes words text) report)
+unfoldable pub crossedWrite : Buffers → List ℕ → List ℕ → WriteCrossing
+crossedWrite run text report =
+    cond (ltb (length report) writeWords) (record { number = orNoRoom (writeNumber (writes run text .answer)); text = text; report = report })
+    (writtenBy (writes run text) report)

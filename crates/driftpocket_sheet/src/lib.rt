@@ -98,7 +98,7 @@ pub extern "C" fn driftpocket_sheet_write(
     report: &mut [u64],
 ) -> u64
     ensures { λ r. ⌜ record { number = r; text = now (text .exit); report = now (report .exit) }
-        ≡ crossedWrite (now (state .entry)) (now (pages .entry)) (now (bytes .entry)) (now (words .entry)) (now (text .entry)) (now (report .entry)) ⌝ }
+        ≡ crossedWrite (record { state = now (state .entry); pages = now (pages .entry); bytes = now (bytes .entry); words = now (words .entry) }) (now (text .entry)) (now (report .entry)) ⌝ }
 {
     if report.len() < WRITE_REPORT {
         let mut nowhere: [u8; 0] = [];

@@ -14,6 +14,7 @@ use Rattle.processor.specs.declared.state.State.{State}
 use Rattle.replay.specs.Run.{Run, inputOf, checkBy, replayed}
 use Rattle.replay.specs.declared.steps.Tested.the-variants.{Passed}
 use Rattle.claims.proofs.RangesProof.{run-stays-in-range}
+use Rattle.sheet.specs.Lent.{Buffers}
 use Rattle.sheet.specs.Sheets.{savedOf, text}
 use Rattle.sheet.proofs.TestedLaws.{passes, passed}
 use Rattle.sheet_write.specs.Laying.{textLength}
@@ -32,20 +33,21 @@ PutBy (Refused refusal) whole after = ⊥
 PutBy (TooLong long) whole after = ⊥
 
 module _ (state : State) (pages bytes words : List ℕ) (pass : checkBy pages (length bytes) (inRange state) (length words) ≡ Passed) where
-  text-room : length (text (savedOf (wordsOf state) pages bytes words)) ≤ textLimit
+  abbrev left : Buffers
+  left = record { state = wordsOf state; pages = pages; bytes = bytes; words = words }
+
+  text-room : length (text (savedOf left)) ≤ textLimit
   unfolding textLength
   text-room =
       let p = passes pages (length bytes) (inRange state) (length words) pass in
-      let size = text-size (wordsOf state) pages bytes words refl (p .list .whole) in
+      let size = text-size left refl (p .list .whole) in
       let most = nonzeros-most (length bytes / 8) bytes in
       omega arith
 
-  pub left-put : (out : List ℕ) → textLimit ≤ length out → (answer : Writing) (after : List ℕ)
-      → record { answer = answer; text = after } ≡ writes (wordsOf state) pages bytes words out
-      → PutBy answer (text (savedOf (wordsOf state) pages bytes words)) after
+  pub left-put : (out : List ℕ) → textLimit ≤ length out → (answer : Writing) (after : List ℕ) → record { answer = answer; text = after } ≡ writes left out → PutBy answer (text (savedOf left)) after
   unfolding writes printed goodState formed stateOf
   left-put out room answer after e =
-      let whole : List ℕ = text (savedOf (wordsOf state) pages bytes words) in
+      let whole : List ℕ = text (savedOf left) in
       let fits : length whole ≤ length out = omega (arith, text-room) in
       let done : _≡_ {A = Written} (record { answer = answer; text = after }) (record { answer = Done (length whole); text = laid out 0 whole }) =
       e ∙ rw (pass, le-leb (length whole) (length out) fits)

@@ -17,10 +17,11 @@ use Rattle.instructions.specs.Instruction.{instructionWords}
 use Rattle.replay.specs.Run.{instructionLimit, inputOf, checkBy}
 use Rattle.replay.specs.declared.steps.Tested.{Tested}
 use Rattle.replay.specs.declared.steps.Tested.the-variants.{Passed, Failed}
-use Rattle.sheet.specs.Sheets.{Saved, entriesOf, bytesOf}
+use Rattle.sheet.specs.Lent.{Buffers, tested}
+use Rattle.sheet.specs.Sheets.{Saved, buffersOf}
 use Rattle.sheet.specs.Reading.{Parsed, sheet, noSheet, parsed}
 use Rattle.sheet.proofs.TestedLaws.{passes}
-use Rattle.sheet_read.specs.Reads.{Buffers, Read, tested, sizesOf, fits, filled, byTest as readByTest, byText as readByText, reads}
+use Rattle.sheet_read.specs.Reads.{Read, sizesOf, fits, filled, byTest as readByTest, byText as readByText, reads}
 use Rattle.sheet_read.specs.declared.buffers.Sizes.{Sizes}
 use Rattle.sheet_read.specs.declared.buffers.Reading.{Reading}
 use Rattle.sheet_read.specs.declared.buffers.Reading.the-variants.{Done, NoSheet, Refused, TooLong}
@@ -50,26 +51,29 @@ Told t (Refused refusal) b = refusedLine (refusalNumber refusal) 0 ≡ outcome t
 Told t (TooLong sizes) b = ⊥
 
 module _ (t : List ℕ) (short : length t ≤ textLimit) (lent : Buffers) (roomy : Roomy lent) where
-  module _ (s : Saved) (e : parsed t ≡ sheet s) (q : tested s ≡ Passed) where
-    ready : (fits s lent ≡ true) × Ready t (sizesOf s) (filled s lent)
-    unfolding tested sizesOf fits filled outcome
+  module _ (s : Saved) (e : parsed t ≡ sheet s) (q : tested (buffersOf s) ≡ Passed) where
+    abbrev run : Buffers
+    run = buffersOf s
+
+    ready : (fits run lent ≡ true) × Ready t (sizesOf run) (filled run lent)
+    unfolding fits filled outcome
     ready =
-        let p = passes (entriesOf (s .pages)) (length (bytesOf (s .pages))) (goodState (s .state)) (length (s .words)) q in
-        let ten = good-fields (s .state) (p .state) in
-        let pages-fit : length (entriesOf (s .pages)) ≤ length (lent .pages) = omega arith in
-        let bytes-fit : length (bytesOf (s .pages)) ≤ length (lent .bytes) = omega arith in
-        let words-fit : length (s .words) ≤ length (lent .words) = omega arith in
-        let state = laid-whole (s .state) (lent .state) (roomy .state ∙ sym ten) in
-        let pages = laid-front (lent .pages) (entriesOf (s .pages)) (length (entriesOf (s .pages))) refl in
-        let bytes = laid-front (lent .bytes) (bytesOf (s .pages)) (length (bytesOf (s .pages))) refl in
-        let words = laid-front (lent .words) (s .words) (length (s .words)) refl in (
-          rw (le-leb (length (s .state)) (length (lent .state)) (omega arith), le-leb _ _ pages-fit, le-leb _ _ bytes-fit, le-leb _ _ words-fit),
+        let p = passes (run .pages) (length (run .bytes)) (goodState (run .state)) (length (run .words)) q in
+        let ten = good-fields (run .state) (p .state) in
+        let pages-fit : length (run .pages) ≤ length (lent .pages) = omega arith in
+        let bytes-fit : length (run .bytes) ≤ length (lent .bytes) = omega arith in
+        let words-fit : length (run .words) ≤ length (lent .words) = omega arith in
+        let state = laid-whole (run .state) (lent .state) (roomy .state ∙ sym ten) in
+        let pages = laid-front (lent .pages) (run .pages) (length (run .pages)) refl in
+        let bytes = laid-front (lent .bytes) (run .bytes) (length (run .bytes)) refl in
+        let words = laid-front (lent .words) (run .words) (length (run .words)) refl in (
+          rw (le-leb (length (run .state)) (length (lent .state)) (omega arith), le-leb _ _ pages-fit, le-leb _ _ bytes-fit, le-leb _ _ words-fit),
           record {
-            pages-in = rw (length-laid (lent .pages) 0 (entriesOf (s .pages)) (omega arith)) pages-fit;
-            bytes-in = rw (length-laid (lent .bytes) 0 (bytesOf (s .pages)) (omega arith)) bytes-fit;
-            words-in = rw (length-laid (lent .words) 0 (s .words) (omega arith)) words-fit;
+            pages-in = rw (length-laid (lent .pages) 0 (run .pages) (omega arith)) pages-fit;
+            bytes-in = rw (length-laid (lent .bytes) 0 (run .bytes) (omega arith)) bytes-fit;
+            words-in = rw (length-laid (lent .words) 0 (run .words) (omega arith)) words-fit;
             good = rw state (p .state);
-            pass = rw (state, pages, bytes, words, ← good-whole (s .state) ten) q;
+            pass = rw (state, pages, bytes, words, ← good-whole (run .state) ten) q;
             same = rw (state, pages, bytes, words, le-ltb textLimit (length t) short, e, q);
           },
         )
@@ -78,12 +82,13 @@ module _ (t : List ℕ) (short : length t ≤ textLimit) (lent : Buffers) (roomy
   unfolding reads outcome
   told r came = rw came (by-text (parsed t) refl)
     where
-      by-test : (s : Saved) → parsed t ≡ sheet s → (found : Tested) → tested s ≡ found → Told t (readByTest found s lent .answer) (readByTest found s lent .buffers)
+      by-test : (s : Saved) → parsed t ≡ sheet s → (found : Tested) → tested (buffersOf s) ≡ found
+          → Told t (readByTest found (buffersOf s) lent .answer) (readByTest found (buffersOf s) lent .buffers)
       by-test s e Passed q = rw (ready s e q .0) (ready s e q .1)
       by-test s e (Failed refusal) q = rw (le-ltb textLimit (length t) short, e, q)
 
       by-text : (p : Parsed) → parsed t ≡ p → Told t (readByText p lent .answer) (readByText p lent .buffers)
-      by-text (sheet s) e = by-test s e (tested s) refl
+      by-text (sheet s) e = by-test s e (tested (buffersOf s)) refl
       by-text (noSheet row) e = rw (le-ltb textLimit (length t) short, e)
 
 -- where a state is good there is one

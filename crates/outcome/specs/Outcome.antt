@@ -13,9 +13,9 @@ use Rattle.replay.specs.Run.{Input, inputOf, Run, replayed}
 use Rattle.replay.specs.declared.steps.Tested.{Tested}
 use Rattle.replay.specs.declared.steps.Tested.the-variants.{Passed, Failed}
 use Rattle.sheet.specs.Lines.{lineOf}
-use Rattle.sheet.specs.Sheets.{Saved, savedOf, entriesOf, bytesOf, text}
+use Rattle.sheet.specs.Lent.{Buffers, tested}
+use Rattle.sheet.specs.Sheets.{savedOf, buffersOf, text}
 use Rattle.sheet.specs.Reading.{Parsed, sheet, noSheet, parsed}
-use Rattle.sheet_read.specs.Reads.{tested}
 
 -- ---- lines that no sheet has, in the form of its lines
 
@@ -40,27 +40,27 @@ refusedLine refusal row = lineOf refusedWord (refusal ∷ row ∷ [])
 -- ---- a run
 
 -- the run that a sheet says
-abbrev pub inputFrom : Saved → Input
-inputFrom s = inputOf (stateOf (s .state)) (entriesOf (s .pages)) (bytesOf (s .pages)) (s .words)
+abbrev pub inputFrom : Buffers → Input
+inputFrom run = inputOf (stateOf (run .state)) (run .pages) (run .bytes) (run .words)
 
 -- the run that is left: state and pages as the completed instructions left them, and the instructions that did not complete
-abbrev pub leftOf : Input → Run → Saved
-leftOf given r = savedOf (wordsOf (r .state)) (given .pages) (r .bytes) (drop (instructionWords * r .count) (given .words))
+abbrev pub leftOf : Input → Run → Buffers
+leftOf given r = record { state = wordsOf (r .state); pages = given .pages; bytes = r .bytes; words = drop (instructionWords * r .count) (given .words) }
 
 -- the answer, and the sheet of what is left
 unfoldable pub answered : Input → List ℕ
-answered given = answerLine (replayed given .count) (replayed given .answer) ++ text (leftOf given (replayed given))
+answered given = answerLine (replayed given .count) (replayed given .answer) ++ text (savedOf (leftOf given (replayed given)))
 
 -- ---- any text
 
 -- refusals 1, 2, 3, 5 and 7, or the run
-abbrev pub byTest : Tested → Saved → List ℕ
-byTest Passed s = answered (inputFrom s)
-byTest (Failed refusal) s = refusedLine (refusalNumber refusal) 0
+abbrev pub byTest : Tested → Buffers → List ℕ
+byTest Passed run = answered (inputFrom run)
+byTest (Failed refusal) run = refusedLine (refusalNumber refusal) 0
 
 -- refusal 9 before them
 abbrev pub byText : Parsed → List ℕ
-byText (sheet s) = byTest (tested s) s
+byText (sheet s) = byTest (tested (buffersOf s)) (buffersOf s)
 byText (noSheet row) = refusedLine sheetNumber row
 
 -- the longest text that is read

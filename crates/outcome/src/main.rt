@@ -79,7 +79,7 @@ fn put_left(state: State, pages: &[u64], bytes: &[u8], words: &[u64], sheet: &mu
     requires { ⌜ checkBy (now pages) (length (now bytes)) (inRange state) (length (now words)) ≡ Passed ⌝ }
     requires { ⌜ textLimit ≤ length (now sheet) ⌝ }
     ensures fits { λ r. ⌜ r ≤ length (now (sheet .exit)) ⌝ }
-    ensures text { λ r. ⌜ take r (now (sheet .exit)) ≡ textOf (savedOf (wordsOf state) (now (pages .entry)) (now (bytes .entry)) (now (words .entry))) ⌝ }
+    ensures text { λ r. ⌜ take r (now (sheet .exit)) ≡ textOf (savedOf (record { state = wordsOf state; pages = now (pages .entry); bytes = now (bytes .entry); words = now (words .entry) })) ⌝ }
 {
     let fields = state.words();
     match sheet_write::write(&fields, pages, bytes, words, sheet) {

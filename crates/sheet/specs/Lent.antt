@@ -1,11 +1,10 @@
 -- A run as it lies in lent buffers, to be written or as it was read. A further buffer is a field here. Assumes nothing.
-use Prim.Native.Nat.{ℕ, _^_}
+use Prim.Native.Nat.{ℕ}
 use mathlib.Core.List.{List}
 use lib.ListN.{length}
 use Rattle.processor.specs.Layout.{goodState}
 use Rattle.replay.specs.Run.{checkBy}
 use Rattle.replay.specs.declared.steps.Tested.{Tested}
-use Rattle.sheet.specs.Digits.{Below}
 
 -- the words of a state, a page list, the bytes of its pages, and the words of the instructions
 pub record Buffers : Type 0 where
@@ -13,13 +12,6 @@ pub record Buffers : Type 0 where
   pub pages : List ℕ
   pub bytes : List ℕ
   pub words : List ℕ
-
--- what their types say: words of 64 bits, bytes of 8
-pub record Typed (run : Buffers) : Type 0 where
-  pub state : Below (2 ^ 64) (run .state)
-  pub pages : Below (2 ^ 64) (run .pages)
-  pub bytes : Below 256 (run .bytes)
-  pub words : Below (2 ^ 64) (run .words)
 
 -- refusals 1, 2, 3, 4, 5 and 7, as before a run
 abbrev pub tested : Buffers → Tested

@@ -63,12 +63,13 @@ held-ascended pages₁ bytes₁ pages₂ bytes₂ holds =
 
 pub equal-text : EqualText
 unfolding savedOf
-equal-text state words pages₁ bytes₁ pages₂ bytes₂ valid₁ valid₂ there back =
-    ap (λ (ps : List Page). text (record { state = state; pages = ps; words = words }))
-    (same-pages 0 (ascended (pagesOf pages₁ bytes₁)) (ascended (pagesOf pages₂ bytes₂)) (lent-ascending pages₁ bytes₁ valid₁) (lent-ascending pages₂ bytes₂ valid₂)
-    (held-ascended pages₁ bytes₁ pages₂ bytes₂ there) (held-ascended pages₂ bytes₂ pages₁ bytes₁ back))
+equal-text a b same =
+    let pages : ascended (pagesOf (a .pages) (a .bytes)) ≡ ascended (pagesOf (b .pages) (b .bytes))
+    = same-pages 0 _ _ (lent-ascending (a .pages) (a .bytes) (same .valid-a)) (lent-ascending (b .pages) (b .bytes) (same .valid-b))
+    (held-ascended (a .pages) (a .bytes) (b .pages) (b .bytes) (same .there)) (held-ascended (b .pages) (b .bytes) (a .pages) (a .bytes) (same .back))
+    in
+    rw (same .state, same .words, pages)
 
 pub equal-writes : EqualWrites
 unfolding writes checkBy
-equal-writes state words pages₁ bytes₁ pages₂ bytes₂ out valid₁ valid₂ there back =
-    rw (valid₁, valid₂, equal-text state words pages₁ bytes₁ pages₂ bytes₂ valid₁ valid₂ there back)
+equal-writes a b out same = rw (equal-text a b same, same .valid-a, same .valid-b, same .state, same .words)

@@ -1,7 +1,7 @@
 -- Reading and writing undo each other, of what the contracts give: from the round trips of sheets and the laws between buffers and sheets.
 -- Assumes nothing.
 use Prim.Native.Nat.{ℕ, _/_}
-use mathlib.Core.Path.{_≡_, refl, sym, ap, _∙_}
+use mathlib.Core.Path.{_≡_, refl, sym, ap, _∙_, subst}
 use mathlib.Core.Bool.{Bool, true, false, cond}
 use mathlib.Core.List.{List, List·Memᴰ}
 use native.Mathlib.Omega.{arith}
@@ -11,26 +11,26 @@ use Rattle.pages.proofs.Laws.{valid-list, list-valid}
 use Rattle.memory.specs.Extends.{HoldsPages}
 use Rattle.processor.specs.Layout.{fields, goodState}
 use Rattle.processor.proofs.Layouts.{good-fields}
-use Rattle.replay.specs.Run.{checkBy}
 use Rattle.replay.specs.declared.steps.Tested.{Tested}
 use Rattle.replay.specs.declared.steps.Tested.the-variants.{Passed, Failed}
 use Rattle.numbers.specs.Buffers.{laid}
 use Rattle.numbers.proofs.Laws.{laid-front}
-use Rattle.sheet.specs.Sheets.{Page, Saved, WholePages, pagesOf, ascended, savedOf, entriesOf, bytesOf, text}
+use Rattle.sheet.specs.Lent.{Buffers, tested}
+use Rattle.sheet.specs.Sheets.{Page, Saved, Sheeted, WholePages, pagesOf, ascended, savedOf, entriesOf, bytesOf, buffersOf, text}
 use Rattle.sheet.specs.Reading.{Parsed, sheet, noSheet, parsed}
-use Rattle.sheet.proofs.TestedLaws.{Passes, passes, passed}
-use Rattle.sheet_read.specs.Reads.{readNumber, Buffers, Read, byTest, byText, tested, fits, filled, sizesOf, reads}
+use Rattle.sheet.proofs.TestedLaws.{passes, passed}
+use Rattle.sheet_read.specs.Reads.{readNumber, Read, byTest, byText, fits, filled, sizesOf, reads}
 use Rattle.sheet_read.specs.declared.buffers.Sizes.{Sizes}
 use Rattle.sheet_read.specs.declared.buffers.Reading.the-variants.{Done as ReadDone, TooLong as ReadTooLong}
 use Rattle.sheet_write.specs.Writes.{writeNumber, Written, byTest as writtenByTest, printed, writes}
 use Rattle.sheet_write.specs.declared.text.Writing.the-variants.{Done as WriteDone, TooLong as WriteTooLong}
 use Rattle.sheet_write.specs.Laying.{textLength}
 use Rattle.sheet_write.proofs.Sizes.{text-size, nonzeros-most}
-use Rattle.sheet_claims.specs.RoundTrips.{SavedSheeted}
-use Rattle.sheet_claims.specs.LentBuffers.{LongestText, WrittenRead, PagesReadBack, ReadWritten, ReadUntouched, WriteUntouched}
+use Rattle.sheet_claims.specs.RoundTrips.{Typed, SavedSheeted}
+use Rattle.sheet_claims.specs.LentBuffers.{fronts, LongestText, WrittenRead, PagesReadBack, ReadWritten, ReadUntouched, WriteUntouched}
 use Rattle.sheet_claims.proofs.RoundTripsProof.{reads-back, writes-back}
-use Rattle.sheet_claims.proofs.SavedLaws.{lent-sheeted, ascended-valid, pages-back, saved-back}
-use Rattle.sheet_claims.proofs.LentPages.{held-lent}
+use Rattle.sheet_claims.proofs.SavedLaws.{lent-whole, ascended-valid, pages-back, saved-back}
+use Rattle.sheet_claims.proofs.LentPages.{held-lent, lent-ascending}
 use Rattle.sheet_claims.proofs.Ordered.{every-map, every-self, every-ascended, mem-ascended}
 
 -- ---- a write that is done, and one that is not
@@ -66,7 +66,7 @@ untouched-by (Failed refusal) whole out e = refl
 
 pub write-untouched : WriteUntouched
 unfolding writes
-write-untouched state pages bytes words out e = untouched-by (checkBy pages (length bytes) (goodState state) (length words)) (text (savedOf state pages bytes words)) out e
+write-untouched run out e = untouched-by (tested run) (text (savedOf run)) out e
 
 -- ---- a read that is done, and one that is not
 
@@ -74,21 +74,21 @@ write-untouched state pages bytes words out e = untouched-by (checkBy pages (len
 record ReadWas (t : List ℕ) (lent : Buffers) (sizes : Sizes) : Type 0 where
   saved : Saved
   from : parsed t ≡ sheet saved
-  good : tested saved ≡ Passed
-  long : sizesOf saved ≡ sizes
-  left : (reads t lent) .buffers ≡ filled saved lent
+  good : tested (buffersOf saved) ≡ Passed
+  long : sizesOf (buffersOf saved) ≡ sizes
+  left : (reads t lent) .buffers ≡ filled (buffersOf saved) lent
 
-abbrev readIf : Bool → Saved → Buffers → Read
-readIf fit s lent = cond fit (record { answer = ReadDone (sizesOf s); buffers = filled s lent }) (record { answer = ReadTooLong (sizesOf s); buffers = lent })
+abbrev readIf : Bool → Buffers → Buffers → Read
+readIf fit run lent = cond fit (record { answer = ReadDone (sizesOf run); buffers = filled run lent }) (record { answer = ReadTooLong (sizesOf run); buffers = lent })
 
-fit-was : (fit : Bool) (s : Saved) (lent : Buffers) (sizes : Sizes) → (readIf fit s lent) .answer ≡ ReadDone sizes → (sizesOf s ≡ sizes) × ((readIf fit s lent) .buffers ≡ filled s lent)
-fit-was true s lent sizes e = (cc, refl)
-fit-was false s lent sizes e = let z : _≡_ {A = ℕ} 0 1 = cc in absurd (omega arith)
+fit-was : (fit : Bool) (run lent : Buffers) (sizes : Sizes) → (readIf fit run lent) .answer ≡ ReadDone sizes → (sizesOf run ≡ sizes) × ((readIf fit run lent) .buffers ≡ filled run lent)
+fit-was true run lent sizes e = (cc, refl)
+fit-was false run lent sizes e = let z : _≡_ {A = ℕ} 0 1 = cc in absurd (omega arith)
 
-test-was : (test : Tested) (s : Saved) (lent : Buffers) (sizes : Sizes) → (byTest test s lent) .answer ≡ ReadDone sizes
-    → (test ≡ Passed) × (sizesOf s ≡ sizes) × ((byTest test s lent) .buffers ≡ filled s lent)
-test-was Passed s lent sizes e = let was = fit-was (fits s lent) s lent sizes e in (refl, was .0, was .1)
-test-was (Failed refusal) s lent sizes e = let z : _≡_ {A = ℕ} 0 1 = cc in absurd (omega arith)
+test-was : (test : Tested) (run lent : Buffers) (sizes : Sizes) → (byTest test run lent) .answer ≡ ReadDone sizes
+    → (test ≡ Passed) × (sizesOf run ≡ sizes) × ((byTest test run lent) .buffers ≡ filled run lent)
+test-was Passed run lent sizes e = let was = fit-was (fits run lent) run lent sizes e in (refl, was .0, was .1)
+test-was (Failed refusal) run lent sizes e = let z : _≡_ {A = ℕ} 0 1 = cc in absurd (omega arith)
 
 read-was : (t : List ℕ) (lent : Buffers) (sizes : Sizes) → (reads t lent) .answer ≡ ReadDone sizes → ReadWas t lent sizes
 unfolding reads
@@ -96,20 +96,20 @@ read-was t lent sizes e = by (parsed t) refl e
   where
     by : (p : Parsed) → parsed t ≡ p → (byText p lent) .answer ≡ ReadDone sizes → ReadWas t lent sizes
     by (sheet s) same done =
-        let was = test-was (tested s) s lent sizes done in
+        let was = test-was (tested (buffersOf s)) (buffersOf s) lent sizes done in
         record { saved = s; from = same; good = was .0; long = was .1; left = rw same (was .2) }
     by (noSheet line) same done = let z : _≡_ {A = ℕ} 0 1 = cc in absurd (omega arith)
 
-fit-untouched : (fit : Bool) (s : Saved) (lent : Buffers) → (readNumber ((readIf fit s lent) .answer) ≡ 0 → ⊥) → (readIf fit s lent) .buffers ≡ lent
-fit-untouched true s lent e = absurd (e refl)
-fit-untouched false s lent e = refl
+fit-untouched : (fit : Bool) (run lent : Buffers) → (readNumber ((readIf fit run lent) .answer) ≡ 0 → ⊥) → (readIf fit run lent) .buffers ≡ lent
+fit-untouched true run lent e = absurd (e refl)
+fit-untouched false run lent e = refl
 
-test-untouched : (test : Tested) (s : Saved) (lent : Buffers) → (readNumber ((byTest test s lent) .answer) ≡ 0 → ⊥) → (byTest test s lent) .buffers ≡ lent
-test-untouched Passed s lent e = fit-untouched (fits s lent) s lent e
-test-untouched (Failed refusal) s lent e = refl
+test-untouched : (test : Tested) (run lent : Buffers) → (readNumber ((byTest test run lent) .answer) ≡ 0 → ⊥) → (byTest test run lent) .buffers ≡ lent
+test-untouched Passed run lent e = fit-untouched (fits run lent) run lent e
+test-untouched (Failed refusal) run lent e = refl
 
 text-untouched : (p : Parsed) (lent : Buffers) → (readNumber ((byText p lent) .answer) ≡ 0 → ⊥) → (byText p lent) .buffers ≡ lent
-text-untouched (sheet s) lent e = test-untouched (tested s) s lent e
+text-untouched (sheet s) lent e = test-untouched (tested (buffersOf s)) (buffersOf s) lent e
 text-untouched (noSheet line) lent e = refl
 
 pub read-untouched : ReadUntouched
@@ -119,43 +119,53 @@ read-untouched t lent e = text-untouched (parsed t) lent e
 -- ---- what was written is read
 
 pub saved-sheeted : SavedSheeted
-saved-sheeted state pages bytes words small-state small-pages small-bytes small-words e =
-    let has = passes pages (length bytes) (goodState state) (length words) e in
-    let ten : length state ≡ fields = good-fields state (has .state) in
-    lent-sheeted pages bytes (list-valid pages (length bytes) (has .list)) state words ten small-state small-pages small-bytes (has .whole) small-words
+unfolding savedOf
+saved-sheeted run typed e =
+    let has = passes (run .pages) (length (run .bytes)) (goodState (run .state)) (length (run .words)) e in
+    let valid = list-valid (run .pages) (length (run .bytes)) (has .list) in
+    record {
+      fields = good-fields (run .state) (has .state);
+      state = typed .state;
+      ascending = lent-ascending (run .pages) (run .bytes) valid;
+      pages = lent-whole (run .pages) (run .bytes) valid (typed .pages) (typed .bytes);
+      whole = has .whole;
+      words = typed .words;
+    }
 
 pub longest-text : LongestText
 unfolding textLength
-longest-text state pages bytes words e =
-    let has = passes pages (length bytes) (goodState state) (length words) e in
-    let ten : length state ≡ fields = good-fields state (has .state) in
+longest-text run e =
+    let has = passes (run .pages) (length (run .bytes)) (goodState (run .state)) (length (run .words)) e in
     let whole = has .list .whole in
     let few = has .list .few in
     let steps = has .few in
-    let values = nonzeros-most (length bytes / 8) bytes in
-    rw (text-size state pages bytes words ten whole) (omega arith)
+    let values = nonzeros-most (length (run .bytes) / 8) (run .bytes) in
+    rw (text-size run (good-fields (run .state) (has .state)) whole) (omega arith)
 
 -- the run, its pages ascending, passes the tests again
-again : (state pages bytes words : List ℕ) → Passes pages (length bytes) (goodState state) (length words) → tested (savedOf state pages bytes words) ≡ Passed
-unfolding tested savedOf
-again state pages bytes words h =
-    let s : Saved = savedOf state pages bytes words in
-    passed (entriesOf (s .pages)) (length (bytesOf (s .pages))) (goodState state) (length words)
-    (record {
-      list = valid-list (entriesOf (s .pages)) (length (bytesOf (s .pages))) (ascended-valid pages bytes (list-valid pages (length bytes) (h .list)));
-      state = h .state;
-      whole = h .whole;
-      few = h .few;
-    })
+again : (run : Buffers) → tested run ≡ Passed → tested (buffersOf (savedOf run)) ≡ Passed
+unfolding savedOf
+again run e =
+    let has = passes (run .pages) (length (run .bytes)) (goodState (run .state)) (length (run .words)) e in
+    let valid = ascended-valid (run .pages) (run .bytes) (list-valid (run .pages) (length (run .bytes)) (has .list)) in
+    passed _ _ (goodState (run .state)) (length (run .words)) (record { list = valid-list _ _ valid; state = has .state; whole = has .whole; few = has .few })
+
+-- a write that is done was of a run that passed its tests, and left its text, which is read back
+record Back (run : Buffers) (out : List ℕ) (long : ℕ) : Type 0 where
+  good : tested run ≡ Passed
+  sheeted : Sheeted (savedOf run)
+  read : parsed (take long ((writes run out) .text)) ≡ sheet (savedOf run)
+
+back-read : (run : Buffers) (out : List ℕ) (long : ℕ) → Typed run → (writes run out) .answer ≡ WriteDone long → Back run out long
+unfolding writes
+back-read run out long typed e =
+    let was = write-was (tested run) (text (savedOf run)) out long e in
+    let sheeted = saved-sheeted run typed (was .good) in
+    record { good = was .good; sheeted = sheeted; read = rw (was .left, laid-front out (text (savedOf run)) long (was .whole-long)) (reads-back (savedOf run) sheeted) }
 
 pub written-read : WrittenRead
-unfolding writes reads
-written-read state pages bytes words out lent long small-state small-pages small-bytes small-words e =
-    let s : Saved = savedOf state pages bytes words in
-    let was = write-was (checkBy pages (length bytes) (goodState state) (length words)) (text s) out long e in
-    let has = passes pages (length bytes) (goodState state) (length words) (was .good) in
-    let sheeted = saved-sheeted state pages bytes words small-state small-pages small-bytes small-words (was .good) in
-    rw (was .left, laid-front out (text s) long (was .whole-long), reads-back s sheeted, again state pages bytes words has)
+unfolding reads
+written-read run out lent long typed e = let back = back-read run out long typed e in rw (back .read, again run (back .good))
 
 -- the pages of the run are the lent ones, in their order
 same-pages : (pages bytes : List ℕ) → let ps : List Page = ascended (pagesOf pages bytes) in
@@ -168,39 +178,38 @@ same-pages pages bytes whole =
       held-lent (entriesOf ps) (bytesOf ps) pages bytes (rw (pages-back ps whole) (every-ascended (λ r. List·Memᴰ r lent) lent (every-self lent))),
     )
 
+-- what a read that is done has put into the buffers is its run
+fronts-are : (t : List ℕ) (lent : Buffers) (sizes : Sizes) (was : ReadWas t lent sizes) → Sheeted (was .saved) → fronts sizes ((reads t lent) .buffers) ≡ buffersOf (was .saved)
+unfolding filled
+fronts-are t lent sizes was sheeted =
+    let run : Buffers = buffersOf (was .saved) in
+    rw (
+      was .left,
+      ← was .long,
+      laid-front (lent .state) (run .state) fields (sheeted .fields),
+      laid-front (lent .pages) (run .pages) (length (run .pages)) refl,
+      laid-front (lent .bytes) (run .bytes) (length (run .bytes)) refl,
+      laid-front (lent .words) (run .words) (length (run .words)) refl,
+    )
+
 pub pages-read-back : PagesReadBack
-unfolding writes filled sizesOf savedOf
-pages-read-back state pages bytes words out lent long sizes small-state small-pages small-bytes small-words wrote read =
-    let s : Saved = savedOf state pages bytes words in
-    let written = write-was (checkBy pages (length bytes) (goodState state) (length words)) (text s) out long wrote in
-    let sheeted = saved-sheeted state pages bytes words small-state small-pages small-bytes small-words (written .good) in
-    let back : List ℕ = take long ((writes state pages bytes words out) .text) in
-    let was = read-was back lent sizes read in
-    let again-read : parsed back ≡ sheet s = rw (written .left, laid-front out (text s) long (written .whole-long)) (reads-back s sheeted) in
-    let both-read : sheet (was .saved) ≡ sheet s = sym (was .from) ∙ again-read in
-    let same : was .saved ≡ s = cc in
-    let pages-are : take (sizes .pages) ((reads back lent) .buffers .pages) ≡ entriesOf (s .pages)
-    = ap (λ (b : Buffers). take (sizes .pages) (b .pages)) (was .left)
-    ∙ laid-front (lent .pages) (entriesOf (was .saved .pages)) (sizes .pages) (ap (λ (z : Sizes). z .pages) (was .long))
-    ∙ ap (λ (r : Saved). entriesOf (r .pages)) same
+unfolding savedOf
+pages-read-back run out lent long sizes typed wrote read =
+    let back = back-read run out long typed wrote in
+    let was = read-was (take long ((writes run out) .text)) lent sizes read in
+    let both-read : sheet (was .saved) ≡ sheet (savedOf run) = sym (was .from) ∙ back .read in
+    let same : was .saved ≡ savedOf run = cc in
+    let held : fronts sizes ((reads (take long ((writes run out) .text)) lent) .buffers) ≡ buffersOf (savedOf run)
+    = fronts-are _ lent sizes was (rw same (back .sheeted)) ∙ ap buffersOf same
     in
-    let bytes-are : take (sizes .bytes) ((reads back lent) .buffers .bytes) ≡ bytesOf (s .pages)
-    = ap (λ (b : Buffers). take (sizes .bytes) (b .bytes)) (was .left)
-    ∙ laid-front (lent .bytes) (bytesOf (was .saved .pages)) (sizes .bytes) (ap (λ (z : Sizes). z .bytes) (was .long))
-    ∙ ap (λ (r : Saved). bytesOf (r .pages)) same
-    in
-    rw (pages-are, bytes-are) (same-pages pages bytes (sheeted .pages))
+    subst (λ (b : Buffers). HoldsPages (run .pages) (run .bytes) (b .pages) (b .bytes) × HoldsPages (b .pages) (b .bytes) (run .pages) (run .bytes)) (sym held)
+    (same-pages (run .pages) (run .bytes) (back .sheeted .pages))
 
 -- ---- what was read is written
 
 pub read-written : ReadWritten
-unfolding writes filled sizesOf tested
+unfolding writes
 read-written t out lent sizes e =
     let was = read-was t lent sizes e in
-    let s : Saved = was .saved in
-    let back = writes-back t s (was .from) in
-    let state-is = laid-front (lent .state) (s .state) fields (back .0 .fields) in
-    let pages-are = laid-front (lent .pages) (entriesOf (s .pages)) (sizes .pages) (ap (λ (z : Sizes). z .pages) (was .long)) in
-    let bytes-are = laid-front (lent .bytes) (bytesOf (s .pages)) (sizes .bytes) (ap (λ (z : Sizes). z .bytes) (was .long)) in
-    let words-are = laid-front (lent .words) (s .words) (sizes .words) (ap (λ (z : Sizes). z .words) (was .long)) in
-    rw (was .left, state-is, pages-are, bytes-are, words-are, was .good, saved-back s (back .0), back .1)
+    let back = writes-back t (was .saved) (was .from) in
+    ap (λ (run : Buffers). writes run out) (fronts-are t lent sizes was (back .0)) ∙ rw (was .good, saved-back (was .saved) (back .0), back .1)

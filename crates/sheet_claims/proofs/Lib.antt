@@ -7,7 +7,7 @@
 --     EqualMeaningProof     equal-text, equal-writes
 --     LentBuffersProof      saved-sheeted, longest-text, written-read, pages-read-back, read-written, read-untouched, write-untouched
 --     Promised              promised: all of them
---     SavedLaws             lent-sheeted, ascended-valid, saved-back: from the lent buffers to a sheet and back
+--     SavedLaws             lent-whole, ascended-valid, saved-back: from the lent buffers to a sheet and back
 
 pub mod WorkedProof
 pub mod RoundTripsProof

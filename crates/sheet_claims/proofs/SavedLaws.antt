@@ -1,6 +1,6 @@
--- What is saved of a valid page list has a sheet; the list in ascending order, with its bytes, is valid again; and the buffers that a
+-- The pages of a valid list are saved whole; the list in ascending order, with its bytes, is valid again; and the buffers that a
 -- run with a sheet fills are saved as that run. Assumes nothing.
-use Prim.Native.Nat.{ℕ, suc, _*_, _%_, _^_, _<_}
+use Prim.Native.Nat.{ℕ, suc, _*_, _^_, _<_}
 use mathlib.Core.Bool.{Bool, false}
 use mathlib.Core.List.{List, [], _∷_}
 use mathlib.Core.Path.{_≡_, refl, sym, ap, _∙_}
@@ -11,9 +11,7 @@ use Rattle.pages.specs.Pages.{pageBytes, badKind, badAddress, anyEntry, listing
 use Rattle.pages.specs.declared.pages.Listing.the-variants.{Valid}
 use Rattle.pages.proofs.Laws.{ValidList, valid-list, list-valid}
 use Rattle.sheet.specs.Digits.{Below}
-use Rattle.sheet.specs.Lines.{fieldCount}
-use Rattle.sheet.specs.declared.line.Line.the-variants.{State, Do}
-use Rattle.sheet.specs.Sheets.{Page, Saved, WholePage, WholePages, Sheeted, pagesOf, ascended, savedOf, entriesOf, bytesOf}
+use Rattle.sheet.specs.Sheets.{Page, Saved, WholePage, WholePages, Sheeted, pagesOf, ascended, savedOf, entriesOf, bytesOf, buffersOf}
 use Rattle.sheet_claims.proofs.Bytes.{below-take, below-drop}
 use Rattle.sheet_claims.proofs.LentPages.{lentPage, lent-entries, lent-every, lent-ascending}
 use Rattle.sheet_claims.proofs.Ordered.{Every, every-ascended, length-ascended, any-every, every-any, ascending-apart, ascending-same}
@@ -73,19 +71,11 @@ module _ (entries bytes : List ℕ) (is-valid : listing entries (length bytes) �
         apart = ascending-apart 0 ps (lent-ascending entries bytes is-valid);
       })
 
-  -- ---- it has a sheet
+  -- ---- its pages are whole
 
-  pub lent-sheeted : (state words : List ℕ) → length state ≡ fieldCount State → Below (2 ^ 64) state → Below (2 ^ 64) entries → Below 256 bytes → length words % fieldCount Do ≡ 0 → Below (2 ^ 64) words
-      → Sheeted (savedOf state entries bytes words)
-  unfolding savedOf Below
-  lent-sheeted state words ten state-small entries-small bytes-small four words-small = record {
-    fields = ten;
-    state = state-small;
-    ascending = lent-ascending entries bytes is-valid;
-    pages = every-whole ps (every-ascended WholePage (pagesOf entries bytes) (lent-every WholePage entries bytes page-whole));
-    whole = four;
-    words = words-small;
-  }
+  pub lent-whole : Below (2 ^ 64) entries → Below 256 bytes → WholePages ps
+  unfolding Below
+  lent-whole entries-small bytes-small = every-whole ps (every-ascended WholePage (pagesOf entries bytes) (lent-every WholePage entries bytes page-whole))
     where
       page-whole : (i : ℕ) → i < length entries → WholePage (lentPage entries bytes i)
       page-whole i h = record {
@@ -103,6 +93,6 @@ pages-back (p ∷ ps) whole =
     let long = whole .0 .long in
     rw (take-at (p .bytes) (bytesOf ps) pageBytes long, drop-at (p .bytes) (bytesOf ps) pageBytes long, pages-back ps (whole .1))
 
-pub saved-back : (s : Saved) → Sheeted s → savedOf (s .state) (entriesOf (s .pages)) (bytesOf (s .pages)) (s .words) ≡ s
+pub saved-back : (s : Saved) → Sheeted s → savedOf (buffersOf s) ≡ s
 unfolding savedOf
 saved-back s h = rw (pages-back (s .pages) (h .pages), ascending-same 0 (s .pages) (h .ascending))

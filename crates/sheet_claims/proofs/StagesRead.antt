@@ -72,7 +72,7 @@ module _ (s : Saved) (h : Sheeted s) where
       (λ a v low a-small v-small. no-other Word kind (line Word (a ∷ v ∷ [])) (word-line a v a-small v-small) no-words)
       (next-do (λ l. isLine kind l ≡ false) (λ vs four small. no-other Do kind (line Do vs) (is-line-line Do vs four small) no-dos) (no-line kind))
 
-  pub stages-read : stages (pageLines (s .pages) ++ (pagesWords (s .pages) ++ dos)) ≡ record { entries = entriesOf (s .pages); pages = s .pages; words = s .words; left = [] }
+  pub stages-read : stages (pageLines (s .pages) ++ (pagesWords (s .pages) ++ dos)) ≡ record { pages = s .pages; words = s .words; left = [] }
   unfolding stages
   stages-read =
       let other = behind-pages PageLine (λ q. let z : _≡_ {A = ℕ} 0 1 = cc in omega arith) (λ q. let z : _≡_ {A = ℕ} 0 1 = cc in omega arith) in

@@ -2,24 +2,22 @@
 use mathlib.Core.Path.{_≡_}
 use mathlib.Core.List.{List}
 use Prim.Native.Nat.{ℕ, _^_}
-use lib.ListN.{length}
-use Rattle.processor.specs.Layout.{goodState}
-use Rattle.replay.specs.Run.{checkBy}
 use Rattle.replay.specs.declared.steps.Tested.the-variants.{Passed}
 use Rattle.sheet.specs.Digits.{Below}
+use Rattle.sheet.specs.Lent.{Buffers, tested}
 use Rattle.sheet.specs.Sheets.{Saved, Sheeted, savedOf, text}
 use Rattle.sheet.specs.Reading.{parsed, sheet}
 
+-- what the types of lent buffers say: words of 64 bits, bytes of 8
+pub record Typed (run : Buffers) : Type 0 where
+  pub state : Below (2 ^ 64) (run .state)
+  pub pages : Below (2 ^ 64) (run .pages)
+  pub bytes : Below 256 (run .bytes)
+  pub words : Below (2 ^ 64) (run .words)
+
 -- what passed the tests of a run is saved as a run that has a sheet, its pages ascending
 abbrev pub SavedSheeted : Type 0
-SavedSheeted =
-    (state pages bytes words : List ℕ)
-    → Below (2 ^ 64) state
-    → Below (2 ^ 64) pages
-    → Below 256 bytes
-    → Below (2 ^ 64) words
-    → checkBy pages (length bytes) (goodState state) (length words) ≡ Passed
-    → Sheeted (savedOf state pages bytes words)
+SavedSheeted = (run : Buffers) → Typed run → tested run ≡ Passed → Sheeted (savedOf run)
 
 -- reading what was written returns the run
 abbrev pub ReadsBack : Type 0

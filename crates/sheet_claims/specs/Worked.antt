@@ -31,10 +31,12 @@ switch = record {
 
 -- two pages, listed the last first: 5000 with two words, of which the second has every digit, and 1000 with one
 abbrev pub bothPages : Saved
-bothPages =
-    savedOf userState (0x5003 ∷ 0x1001 ∷ [])
-    (replicate 0xff0 0 ++ (1 ∷ 0 ∷ 0 ∷ 0 ∷ 0 ∷ 0 ∷ 0 ∷ 0 ∷ 0xef ∷ 0xcd ∷ 0xab ∷ 0x89 ∷ 0x67 ∷ 0x45 ∷ 0x23 ∷ 0x01 ∷ (0x10 ∷ replicate 0xfff 0)))
-    []
+bothPages = savedOf (record {
+  state = userState;
+  pages = 0x5003 ∷ 0x1001 ∷ [];
+  bytes = replicate 0xff0 0 ++ (1 ∷ 0 ∷ 0 ∷ 0 ∷ 0 ∷ 0 ∷ 0 ∷ 0 ∷ 0xef ∷ 0xcd ∷ 0xab ∷ 0x89 ∷ 0x67 ∷ 0x45 ∷ 0x23 ∷ 0x01 ∷ (0x10 ∷ replicate 0xfff 0));
+  words = [];
+})
 
 abbrev pub headText : String
 headText = "sheet\tx0000000000000001\nstate\tx0000000000000002\tx0000000000000003\tx0000000000000001\tx0000000000000001\tx0000000000000000\tx0000000000400000\tx0000000000005010\tx0000000000001ff0\tx0000000000000000\tx00000000ffffffff\n"

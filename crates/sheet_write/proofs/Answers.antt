@@ -5,10 +5,9 @@ use mathlib.Core.List.{List}
 use lib.ListN.{length}
 use borrow.Author.Tests.{le-leb, lt-leb}
 use Rattle.answers.specs.declared.answer.Refusal.{Refusal}
-use Rattle.processor.specs.Layout.{goodState}
-use Rattle.replay.specs.Run.{checkBy}
 use Rattle.replay.specs.declared.steps.Tested.the-variants.{Passed, Failed}
 use Rattle.numbers.specs.Buffers.{laid}
+use Rattle.sheet.specs.Lent.{Buffers, tested}
 use Rattle.sheet.specs.Sheets.{text, savedOf}
 use Rattle.sheet_write.specs.Writes.{Written, printed, writes}
 use Rattle.sheet_write.specs.declared.text.Writing.the-variants.{Done, Refused, TooLong}
@@ -22,12 +21,11 @@ module _ (whole out : List ℕ) (long : ℕ) (long-is : long ≡ length whole) w
   unfolding printed
   done after h after-is = rw (after-is, long-is, le-leb (length whole) (length out) (rw (← long-is) h))
 
-module _ (state pages bytes words out : List ℕ) where
-  pub refused : (refusal : Refusal) → checkBy pages (length bytes) (goodState state) (length words) ≡ Failed refusal
-      → _≡_ {A = Written} (record { answer = Refused refusal; text = out }) (writes state pages bytes words out)
+module _ (run : Buffers) (out : List ℕ) where
+  pub refused : (refusal : Refusal) → tested run ≡ Failed refusal → _≡_ {A = Written} (record { answer = Refused refusal; text = out }) (writes run out)
   unfolding writes
   refused refusal e = rw e
 
-  pub passed : checkBy pages (length bytes) (goodState state) (length words) ≡ Passed → printed (text (savedOf state pages bytes words)) out ≡ writes state pages bytes words out
+  pub passed : tested run ≡ Passed → printed (text (savedOf run)) out ≡ writes run out
   unfolding writes
   passed e = rw e

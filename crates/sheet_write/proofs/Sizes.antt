@@ -13,6 +13,7 @@ use Rattle.numbers.specs.Numbers.{numberAt}
 use Rattle.pages.specs.Pages.{pageBytes, pageOf, pageNumber}
 use Rattle.processor.specs.Layout.{fields}
 use Rattle.sheet.specs.Lines.{fieldCount, line, width, joined}
+use Rattle.sheet.specs.Lent.{Buffers}
 use Rattle.sheet.specs.Sheets.{Page, lineCount, wordLine, wordLines, slots, plainLines, pagesOf, insert, ascended, version, text, savedOf}
 use Rattle.sheet.specs.declared.line.Line.{Line}
 use Rattle.sheet.specs.declared.line.Line.the-variants.{Sheet, State as StateLine, Page as PageLine, Word, Do}
@@ -24,7 +25,7 @@ use Rattle.sheet_write.specs.declared.lay.Pass.the-variants.{Entries, Va
 use Rattle.sheet_write.proofs.Ascending.{le-or-lt, before, past}
 use Rattle.sheet_write.proofs.Lays.{Begins, joined-one}
 use Rattle.sheet_write.proofs.Rests.{words-suc, pages-cons}
-use Rattle.sheet_write.proofs.Texts.{sheet-first, state-first, entries-first, values-first, steps-first}
+use Rattle.sheet_write.proofs.Texts.{pieces, in-pieces}
 use Rattle.sheet_write.proofs.ValueLaws.{nonzeros-suc}
 
 -- a text's first piece and the others
@@ -161,20 +162,26 @@ values-size (entry ∷ entries) bytes =
 
 -- ---- the whole
 
+-- all pieces of a text
+abbrev lengths : List (List ℕ) → ℕ
+lengths [] = 0
+lengths (piece ∷ later) = length piece + lengths later
+
+joined-size : (pieces : List (List ℕ)) → length (joined pieces) ≡ lengths pieces
+unfolding joined
+joined-size [] = refl
+joined-size (piece ∷ later) = length-append piece (joined later) ∙ ap (λ (n : ℕ). length piece + n) (joined-size later)
+
 -- the length that the code adds up
-pub text-size : (state entries bytes words : List ℕ) → length state ≡ fields → length bytes ≡ pageBytes * length entries
-    → length (text (savedOf state entries bytes words)) ≡ textLength (length entries) (nonzeros (length bytes / 8) bytes) (length words / fieldCount Do)
+pub text-size : (run : Buffers) → length (run .state) ≡ fields → length (run .bytes) ≡ pageBytes * length (run .pages)
+    → length (text (savedOf run)) ≡ textLength (length (run .pages)) (nonzeros (length (run .bytes) / 8) (run .bytes)) (length (run .words) / fieldCount Do)
 unfolding textLength
-text-size state entries bytes words full whole =
-    let one = parts _ _ _ (sheet-first state entries bytes words) in
-    let two = parts _ _ _ (state-first state entries bytes words) in
-    let three = parts _ _ _ (entries-first state entries bytes words) in
-    let four = parts _ _ _ (values-first state entries bytes words) in
-    let five = parts _ _ _ (steps-first state entries bytes words) in
-    let sheet-is = line-length Sheet (version ∷ []) refl in
-    let state-is = line-length StateLine state full in
-    let entries-are = size-ascended Entries (pagesOf entries bytes) ∙ entries-size entries bytes in
-    let values-are = size-ascended Values (pagesOf entries bytes) ∙ values-size entries bytes in
-    let steps-are = plain-size Do (length words / fieldCount Do) words (omega arith) in
-    let count : length bytes / 8 ≡ slots * length entries = omega arith in
+text-size run full whole =
+    let all = ap length (in-pieces run) ∙ joined-size (pieces run) in
+    let head = line-length Sheet (version ∷ []) refl in
+    let state = line-length StateLine (run .state) full in
+    let entries = size-ascended Entries (pagesOf (run .pages) (run .bytes)) ∙ entries-size (run .pages) (run .bytes) in
+    let values = size-ascended Values (pagesOf (run .pages) (run .bytes)) ∙ values-size (run .pages) (run .bytes) in
+    let steps = plain-size Do (length (run .words) / fieldCount Do) (run .words) (omega arith) in
+    let count : length (run .bytes) / 8 ≡ slots * length (run .pages) = omega arith in
     rw count (omega arith)

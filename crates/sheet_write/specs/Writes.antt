@@ -5,10 +5,9 @@ use mathlib.Core.List.{List}
 use lib.ListN.{length}
 use lib.Dec.{leb}
 use Rattle.answers.specs.Answer.{refusalNumber, roomNumber}
-use Rattle.processor.specs.Layout.{goodState}
-use Rattle.replay.specs.Run.{checkBy}
 use Rattle.replay.specs.declared.steps.Tested.{Tested}
 use Rattle.replay.specs.declared.steps.Tested.the-variants.{Passed, Failed}
+use Rattle.sheet.specs.Lent.{Buffers, tested}
 use Rattle.sheet.specs.Sheets.{savedOf, text}
 use Rattle.numbers.specs.Buffers.{laid}
 use Rattle.sheet_write.specs.declared.text.Writing.{Writing}
@@ -36,6 +35,5 @@ byTest Passed whole out = printed whole out
 byTest (Failed refusal) whole out = record { answer = Refused refusal; text = out }
 
 -- The refusals of a run first, but 6, then refusal 8. A refused write leaves the buffer as it was.
-unfoldable pub writes : List ℕ → List ℕ → List ℕ → List ℕ → List ℕ → Written
-writes state pages bytes words out =
-    byTest (checkBy pages (length bytes) (goodState state) (length words)) (text (savedOf state pages bytes words)) out
+unfoldable pub writes : Buffers → List ℕ → Written
+writes run out = byTest (tested run) (text (savedOf run)) out

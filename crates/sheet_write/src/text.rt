@@ -1,11 +1,10 @@
 // A run into the text of its sheet: nothing is written before the run is judged and the text is known to fit.
 ghost use mathlib.Core.Path.{_≡_};
 ghost use Prim.Native.Nat.{_*_, _≤_};
-ghost use lib.ListN.{length};
 ghost use Rattle.pages.specs.Pages.{pageLimit};
-ghost use Rattle.processor.specs.Layout.{goodState};
-ghost use Rattle.replay.specs.Run.{instructionLimit, checkBy};
+ghost use Rattle.replay.specs.Run.{instructionLimit};
 ghost use Rattle.replay.specs.declared.steps.Tested.the-variants.{Passed};
+ghost use Rattle.sheet.specs.Lent.{tested};
 ghost use Rattle.sheet.specs.Sheets.{slots, text as textOf, savedOf};
 ghost use Rattle.sheet_write.specs.Laying.{textLength};
 ghost use Rattle.sheet_write.specs.Writes.{printed, writes};
@@ -40,8 +39,8 @@ fn text_length(pages: usize, values: usize, steps: usize) -> usize
 
 // Writes a run that is not refused.
 fn print(state: &[u64], pages: &[u64], bytes: &[u8], words: &[u64], text: &mut [u8]) -> Writing
-    requires { ⌜ checkBy (now pages) (length (now bytes)) (goodState (now state)) (length (now words)) ≡ Passed ⌝ }
-    ensures { λ r. ⌜ record { answer = r; text = now (text .exit) } ≡ printed (textOf (savedOf (now (state .entry)) (now (pages .entry)) (now (bytes .entry)) (now (words .entry)))) (now (text .entry)) ⌝ }
+    requires { ⌜ tested (record { state = now state; pages = now pages; bytes = now bytes; words = now words }) ≡ Passed ⌝ }
+    ensures { λ r. ⌜ record { answer = r; text = now (text .exit) } ≡ printed (textOf (savedOf (record { state = now (state .entry); pages = now (pages .entry); bytes = now (bytes .entry); words = now (words .entry) }))) (now (text .entry)) ⌝ }
 {
     let long = text_length(pages.len(), nonzero(bytes), words.len() / INSTRUCTION_WORDS);
     if text.len() < long {
@@ -54,7 +53,7 @@ fn print(state: &[u64], pages: &[u64], bytes: &[u8], words: &[u64], text: &mut [
 // Writes a run's sheet to the front of the text. A run that is refused before its first step, and one whose sheet does not fit, change
 // nothing.
 pub fn write(state: &[u64], pages: &[u64], bytes: &[u8], words: &[u64], text: &mut [u8]) -> Writing
-    ensures { λ r. ⌜ record { answer = r; text = now (text .exit) } ≡ writes (now (state .entry)) (now (pages .entry)) (now (bytes .entry)) (now (words .entry)) (now (text .entry)) ⌝ }
+    ensures { λ r. ⌜ record { answer = r; text = now (text .exit) } ≡ writes (record { state = now (state .entry); pages = now (pages .entry); bytes = now (bytes .entry); words = now (words .entry) }) (now (text .entry)) ⌝ }
 {
     match replay::check(pages, bytes.len(), good_state(state), words.len()) {
         Tested::Failed(refusal) => Writing::Refused(refusal),

@@ -30,7 +30,7 @@ returns c =
     let after-write = after-write-report .before .before in
     let then1 = after-write .before .before in
     let same = ap (λ (w : Written). w .answer) (after-write .write .ensures) in
-    rw (c .or-no-room .ensures, after-write-report .write-report .ensures, same) (write-short _ _ _ _ _ _ (then1 .if1 .taken))
+    rw (c .or-no-room .ensures, after-write-report .write-report .ensures, same) (write-short _ _ _ (then1 .if1 .taken))
 
 write-requires-2 : tie.Need-write-requires-2
 write-requires-2 c κs = search needs

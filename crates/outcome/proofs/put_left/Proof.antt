@@ -8,7 +8,7 @@ use Rattle.outcome.proofs.put_left.Tie as tie
 
 -- what the writer's answer says
 put : (c : tie.After-write) → let start = c .before .before .before .before .before .before .before .before in
-    PutBy (c .write .result) (text (savedOf (wordsOf (start .args .state)) (start .args .pages .now) (start .args .bytes .now) (start .args .words .now)))
+    PutBy (c .write .result) (text (savedOf (record { state = wordsOf (start .args .state); pages = start .args .pages .now; bytes = start .args .bytes .now; words = start .args .words .now })))
     (c .write .last .1 .1 .1 .1 .0)
 put c =
     let after-words = c .before .before .before in

@@ -1,12 +1,12 @@
 -- `print` meets its contract: the text is as long as was counted, and is laid where it fits. Assumes nothing.
 use Prim.Native.Nat.{ℕ, _/_}
 use mathlib.Core.Path.{_≡_, sym, _∙_, ap}
-use mathlib.Core.List.{List}
 use native.Mathlib.Omega.{arith}
 use lib.ListN.{length}
 use Rattle.processor.specs.Layout.{goodState}
 use Rattle.processor.proofs.Layouts.{good-fields}
 use Rattle.instructions.specs.Instruction.{instructionWords}
+use Rattle.sheet.specs.Lent.{Buffers}
 use Rattle.sheet.specs.Sheets.{text, savedOf}
 use Rattle.sheet.proofs.TestedLaws.{Passes, passes}
 use Rattle.sheet_write.specs.Laying.{textLength}
@@ -24,18 +24,17 @@ way-text-length c = record { start = c .before .before .before .before .before .
 tested : (c : tie.Start) → Passes (c .args .pages .now) (length (c .args .bytes .now)) (goodState (c .args .state .now)) (length (c .args .words .now))
 tested c = passes _ _ _ _ (c .pre)
 
-abbrev whole : tie.Start → List ℕ
-whole c = text (savedOf (c .args .state .now) (c .args .pages .now) (c .args .bytes .now) (c .args .words .now))
+abbrev run : tie.Start → Buffers
+run c = record { state = c .args .state .now; pages = c .args .pages .now; bytes = c .args .bytes .now; words = c .args .words .now }
 
 -- the count is the text's length
-long : (c : tie.After-text-length) → c .text-length .result ≡ length (whole (way-text-length c .start))
+long : (c : tie.After-text-length) → c .text-length .result ≡ length (text (savedOf (run (way-text-length c .start))))
 long c =
     let start = way-text-length c .start in
     let ready = tested start in
     c .text-length .ensures
     ∙ ap (λ (values : ℕ). textLength (length (start .args .pages .now)) values (length (start .args .words .now) / instructionWords)) (c .before .nonzero .ensures)
-    ∙ sym (text-size (start .args .state .now) (start .args .pages .now) (start .args .bytes .now) (start .args .words .now)
-    (good-fields _ (ready .state)) (ready .list .whole))
+    ∙ sym (text-size (run start) (good-fields _ (ready .state)) (ready .list .whole))
 
 nonzero-requires : tie.Need-nonzero-requires
 nonzero-requires c κs = search needs

@@ -1,20 +1,16 @@
 -- `write` meets its contract: its tests are those of a run, and a run that passes them is printed. Assumes nothing.
 use mathlib.Core.Path.{_≡_, sym, _∙_}
-use lib.ListN.{length}
-use Rattle.replay.specs.Run.{checkBy}
-use Rattle.processor.specs.Layout.{goodState}
+use Rattle.sheet.specs.Lent.{tested}
 use Rattle.sheet_write.proofs.Answers.{refused, passed}
 use borrow.Author.Needs.{needs}
 use Rattle.sheet_write.proofs.text.write.Statement.{statement}
 use Rattle.sheet_write.proofs.text.write.Tie as tie
 
 -- what the tests found
-tested : (c : tie.After-check) →
+found : (c : tie.After-check) →
     let args = c .before .before .before .before .before .before .before .args in
-    c .check .result
-    ≡ checkBy (args .pages .now) (length (args .bytes .now))
-    (goodState (args .state .now)) (length (args .words .now))
-tested c = rw (← c .before .good-state .ensures) (c .check .ensures)
+    c .check .result ≡ tested (record { state = args .state .now; pages = args .pages .now; bytes = args .bytes .now; words = args .words .now })
+found c = rw (← c .before .good-state .ensures) (c .check .ensures)
 
 good-state-requires : tie.Need-good-state-requires
 good-state-requires c κs = search needs
@@ -29,10 +25,10 @@ enum-told : tie.Need-enum-told
 enum-told c = search needs
 
 print-requires : tie.Need-print-requires
-print-requires c κs = sym (tested (c .before .before .before)) ∙ c .before .enum-told .given .1
+print-requires c κs = sym (found (c .before .before .before)) ∙ c .before .enum-told .given .1
 
 returns : tie.Need-returns
-returns c = refused _ _ _ _ _ _ (sym (tested (c .before .before .before)) ∙ c .before .refusal .given .1)
+returns c = refused _ _ _ (sym (found (c .before .before .before)) ∙ c .before .refusal .given .1)
 
 same-length : tie.Need-same-length
 same-length c = search needs
@@ -42,7 +38,7 @@ returns-2 c =
     let after-print = c .before .before in
     let after-enum-told = after-print .before .before in
     let after-check = after-enum-told .before .before in
-    after-print .print .ensures ∙ passed _ _ _ _ _ (sym (tested after-check) ∙ after-enum-told .enum-told .given .1)
+    after-print .print .ensures ∙ passed _ _ (sym (found after-check) ∙ after-enum-told .enum-told .given .1)
 
 pub write-spec : {M : Type 1} → statement M
 write-spec =
