@@ -1,26 +1,27 @@
 -- The turns of the loops: what each definition gives from a place on, in the terms of the code. Assumes nothing.
 use Prim.Native.Nat.{ℕ, suc, _+_, _-_, _*_, _/_, _%_, _^_, _<_, _≤_}
-use mathlib.Core.Path.{_≡_, ap, _∙_}
-use mathlib.Core.Bool.{Bool, false, true, and-true, _&&_}
+use mathlib.Core.Path.{_≡_, refl, ap, _∙_}
+use mathlib.Core.Bool.{Bool, false, true, cond, and-true, _&&_}
 use mathlib.Core.List.{List, [], _∷_, _++_}
 use native.Mathlib.Nat.{pow-suc, pow-le-pow-right}
 use native.Mathlib.Numerals.{add-one}
 use native.Mathlib.Omega.{arith}
 use lib.Dec.{lit<, eqb}
-use lib.ListN.{length, getD, take, drop, set, length-drop, drop-of-length-le}
+use lib.ListN.{length, getD, take, drop, set, replicate, length-drop, drop-of-length-le}
 use lib.Seq.{take-all, drop-cons, drop-drop}
-use Rattle.sheet.specs.Digits.{digit, digitValue, hex, number, tab, lineFeed, valueFrom, valueOf}
+use Rattle.sheet.specs.Digits.{digit, isDigit, digitValue, hex, number, tab, lineFeed, letterX, valueFrom, valueOf}
 use Rattle.numbers.specs.Numbers.{inside}
 use Rattle.numbers.specs.Buffers.{laid, laidIf}
 use Rattle.numbers.proofs.Laws.{length-laid, laid-last, laid-nil, laid-turn}
-use Rattle.sheet.specs.Lines.{name, fieldCount, numberForm, fieldForms, begins, fitsMark, numeral, fields, form, first, width, lineOf, line, fitsLine, putLine}
+use Rattle.sheet.specs.Lines.{name, fieldCount, anyDigit, numberForm, fieldForms, begins, fitsMark, numeral, fields, form, first, width, lineOf, line, fitsLine, putLine}
 use Rattle.sheet.specs.declared.line.Line.{Line}
+use Rattle.sheet.specs.declared.digits.Numeral.{Numeral}
 use Rattle.sheet.specs.declared.digits.Numeral.the-variants.{Number, NoNumber}
 use Rattle.sheet.proofs.DigitLaws.{hex-length, number-length}
 use Rattle.sheet.proofs.Fields.{fields-length, forms-length}
 use Rattle.sheet.proofs.LineLaws.{line-long}
 use Rattle.sheet.proofs.FormLaws.{begins-room, begins-append, begins-take}
-use borrow.Author.Tests.{lt-leb, eq-eqb, ne-eqb}
+use borrow.Author.Tests.{lt-leb, leb-false, eq-eqb, ne-eqb}
 
 -- ---- a form against a text
 
@@ -80,32 +81,50 @@ rest-whole text at = take-all (length text - at) (drop at text) (simp length-dro
 
 -- ---- a number at a place
 
+-- what n characters give behind a number that was read before
+unfoldable pub digitsFrom : ℕ → ℕ → List ℕ → Numeral
+digitsFrom n v u = cond (begins (replicate n anyDigit) u) (Number (valueFrom v (take n u))) NoNumber
+
+pub digits-end : (n v : ℕ) (u : List ℕ) → n ≤ 0 → digitsFrom n v u ≡ Number v
+unfolding digitsFrom begins valueFrom
+digits-end n v u end = let none : n ≡ 0 = omega arith in rw none
+
 module _ (text : List ℕ) (at : ℕ) where
-  pub no-numeral : length text ≤ at → numeral (drop at text) ≡ NoNumber
-  unfolding numeral begins
-  no-numeral end = rw (drop-of-length-le text end)
+  pub no-room : inside (length text) at 17 ≡ false → numeral (drop at text) ≡ NoNumber
+  unfolding numeral inside
+  no-room short = go (begins numberForm (drop at text)) refl
+    where
+      go : (b : Bool) → begins numberForm (drop at text) ≡ b → numeral (drop at text) ≡ NoNumber
+      go true e =
+          let room = begins-room numberForm (drop at text) e in
+          let less = leb-false (at + 17) (length text) short in
+          let left = length-drop at text in absurd (omega arith)
+      go false e = rw e
 
-  pub no-form : begins numberForm (drop at text) ≡ false → numeral (drop at text) ≡ NoNumber
-  unfolding numeral
-  no-form other = rw other
+  module _ (room : at + 17 ≤ length text) where
+    pub no-letter : (getD text at 0 ≡ letterX → ⊥) → numeral (drop at text) ≡ NoNumber
+    unfolding numeral begins
+    no-letter other = rw (drop-cons text at 0 (omega arith), ne-eqb (getD text at 0) letterX other)
 
-  pub formed-numeral : begins numberForm (drop at text) ≡ true → numeral (drop at text) ≡ Number (valueOf (take 16 (drop (at + 1) text)))
-  unfolding numeral
-  formed-numeral formed = rw (formed, drop-drop 1 at text)
+    pub digits-start : getD text at 0 ≡ letterX → numeral (drop at text) ≡ digitsFrom 16 0 (drop (at + 1) text)
+    unfolding numeral begins digitsFrom valueOf
+    digits-start letter = rw (add-one at, drop-cons text at 0 (omega arith), eq-eqb (getD text at 0) letterX letter)
 
-  pub formed-room : begins numberForm (drop at text) ≡ true → at + 1 + 16 ≤ length text
-  formed-room formed = let room = begins-room numberForm (drop at text) formed in let left = length-drop at text in omega arith
+    module _ (i v : ℕ) (more : i < 16) where
+      here : digitsFrom (16 - i) v (drop (at + (i + 1)) text) ≡ digitsFrom (suc (16 - (i + 1))) v (getD text (at + (i + 1)) 0 ∷ drop (at + (i + 1 + 1)) text)
+      here =
+          let one : 16 - i ≡ suc (16 - (i + 1)) = omega arith in
+          let next : at + (i + 1 + 1) ≡ suc (at + (i + 1)) = omega arith in
+          rw (one, next, drop-cons text (at + (i + 1)) 0 (omega arith))
 
--- ---- digits, read from the left
+      pub digits-stop : isDigit (getD text (at + (i + 1)) 0) ≡ false → digitsFrom (16 - i) v (drop (at + (i + 1)) text) ≡ NoNumber
+      unfolding digitsFrom begins
+      digits-stop other = here ∙ rw other
 
-module _ (cs : List ℕ) (i v : ℕ) where
-  pub value-turn : i < length cs → valueFrom v (drop i cs) ≡ valueFrom (v * 16 + digitValue (getD cs i 0)) (drop (i + 1) cs)
-  unfolding valueFrom
-  value-turn more = rw (add-one i, drop-cons cs i 0 more)
-
-  pub value-end : length cs ≤ i → valueFrom v (drop i cs) ≡ v
-  unfolding valueFrom
-  value-end end = rw (drop-of-length-le cs end)
+      pub digits-turn : isDigit (getD text (at + (i + 1)) 0) ≡ true
+          → digitsFrom (16 - i) v (drop (at + (i + 1)) text) ≡ digitsFrom (16 - (i + 1)) (v * 16 + digitValue (getD text (at + (i + 1)) 0)) (drop (at + (i + 1 + 1)) text)
+      unfolding digitsFrom begins valueFrom
+      digits-turn is = here ∙ rw is
 
 -- i digits make a number below 16 ^ i, and one digit more fits where that is the 16th at most
 pub value-room : (v i : ℕ) → v < 16 ^ i → i < 16 → v * 16 + 15 < 2 ^ 64

@@ -1,10 +1,10 @@
 // Hexadecimal digits, and the numbers that they make.
 ghost use mathlib.Core.Path.{_≡_};
-ghost use Prim.Native.Nat.{_<_, _≤_};
-ghost use lib.ListN.{length, drop};
-ghost use Rattle.sheet.specs.Digits.{digits as digitCount, digit as digitOf, digitValue as digitValueOf, valueOf};
+ghost use Prim.Native.Nat.{_<_};
+ghost use lib.ListN.{drop};
+ghost use Rattle.sheet.specs.Digits.{digit as digitOf, isDigit, digitValue as digitValueOf};
 ghost use Rattle.sheet.specs.Lines.{numeral};
-use crate::forms::begins;
+use numbers::has_room;
 
 // How many digits every number has.
 pub(crate) const DIGITS: usize = 16;
@@ -14,6 +14,22 @@ pub enum Numeral {
     Number(u64),
     // Anything else than the letter x and 16 digits.
     NoNumber,
+}
+
+// Whether a character is a digit, 0 to 9 or a to f.
+pub(crate) fn is_digit(c: u8) -> bool
+    ensures { λ r. ⌜ r ≡ isDigit c ⌝ }
+{
+    if c < 48 {
+        return false;
+    }
+    if c <= 57 {
+        return true;
+    }
+    if c < 97 {
+        return false;
+    }
+    c <= 102
 }
 
 // What a digit stands for; of any other character, some number below 16.
@@ -36,31 +52,25 @@ pub(crate) fn digit(d: u64) -> u8
     }
 }
 
-// The number that these digits are.
-fn value(digits: &[u8]) -> u64
-    requires { ⌜ length (now digits) ≤ digitCount ⌝ }
-    ensures { λ r. ⌜ r ≡ valueOf (now (digits .entry)) ⌝ }
-{
-    let mut v: u64 = 0;
-    let mut i = 0;
-    while i < digits.len() {
-        v = v * 16 + digit_value(digits[i]);
-        i += 1;
-    }
-    v
-}
-
 // The number at a place of a text, or that none stands there.
 pub fn number(text: &[u8], at: usize) -> Numeral
     ensures { λ r. ⌜ r ≡ numeral (drop at (now (text .entry))) ⌝ }
 {
-    if text.len() <= at {
+    if !has_room(text.len(), at, DIGITS + 1) {
         return Numeral::NoNumber;
     }
-    if !begins(b"x################", &text[at..]) {
+    if text[at] != b'x' {
         return Numeral::NoNumber;
     }
-    let first = at + 1;
-    let end = first + DIGITS;
-    Numeral::Number(value(&text[first..end]))
+    let mut v: u64 = 0;
+    let mut i = 0;
+    while i < DIGITS {
+        i += 1;
+        let c = text[at + i];
+        if !is_digit(c) {
+            return Numeral::NoNumber;
+        }
+        v = v * 16 + digit_value(c);
+    }
+    Numeral::Number(v)
 }

@@ -2,8 +2,8 @@
 use Rattle.sheet.specs.Digits.{isDigit}
 use borrow.Author.Tests.{le-leb, lt-leb}
 use native.Mathlib.Omega.{arith}
-use Rattle.sheet.proofs.forms.is_digit.Statement.{statement}
-use Rattle.sheet.proofs.forms.is_digit.Tie as tie
+use Rattle.sheet.proofs.digits.is_digit.Statement.{statement}
+use Rattle.sheet.proofs.digits.is_digit.Tie as tie
 
 returns : tie.Need-returns
 unfolding isDigit
