@@ -20,16 +20,7 @@ pub enum Numeral {
 pub(crate) fn is_digit(c: u8) -> bool
     ensures { λ r. ⌜ r ≡ isDigit c ⌝ }
 {
-    if c < 48 {
-        return false;
-    }
-    if c <= 57 {
-        return true;
-    }
-    if c < 97 {
-        return false;
-    }
-    c <= 102
+    (48 <= c && c <= 57) || (97 <= c && c <= 102)
 }
 
 // What a digit stands for; of any other character, some number below 16.
