@@ -1,7 +1,7 @@
 -- The turns of the loops: what each definition gives from a place on, in the terms of the code. Assumes nothing.
 use Prim.Native.Nat.{ℕ, suc, _+_, _-_, _*_, _/_, _%_, _^_, _<_, _≤_}
 use mathlib.Core.Path.{_≡_, refl, ap, _∙_}
-use mathlib.Core.Bool.{Bool, false, true, cond, and-true, _&&_}
+use mathlib.Core.Bool.{Bool, false, true, cond, and-true, and-assoc, _&&_}
 use mathlib.Core.List.{List, [], _∷_, _++_}
 use native.Mathlib.Nat.{pow-suc, pow-le-pow-right}
 use native.Mathlib.Numerals.{add-one}
@@ -81,13 +81,13 @@ rest-whole text at = take-all (length text - at) (drop at text) (simp length-dro
 
 -- ---- a number at a place
 
--- what n characters give behind a number that was read before
-unfoldable pub digitsFrom : ℕ → ℕ → List ℕ → Numeral
-digitsFrom n v u = cond (begins (replicate n anyDigit) u) (Number (valueFrom v (take n u))) NoNumber
+-- what n characters give behind those that were read before: these were good or not, and made v
+unfoldable pub digitsFrom : Bool → ℕ → ℕ → List ℕ → Numeral
+digitsFrom good n v u = cond (good && begins (replicate n anyDigit) u) (Number (valueFrom v (take n u))) NoNumber
 
-pub digits-end : (n v : ℕ) (u : List ℕ) → n ≤ 0 → digitsFrom n v u ≡ Number v
+pub digits-end : (good : Bool) (i v : ℕ) (u : List ℕ) → 16 ≤ i → digitsFrom good (16 - i) v u ≡ cond good (Number v) NoNumber
 unfolding digitsFrom begins valueFrom
-digits-end n v u end = let none : n ≡ 0 = omega arith in rw none
+digits-end good i v u end = let none : 16 - i ≡ 0 = omega arith in rw (none, and-true)
 
 module _ (text : List ℕ) (at : ℕ) where
   pub no-room : inside (length text) at 17 ≡ false → numeral (drop at text) ≡ NoNumber
@@ -101,30 +101,17 @@ module _ (text : List ℕ) (at : ℕ) where
           let left = length-drop at text in absurd (omega arith)
       go false e = rw e
 
-  module _ (room : at + 17 ≤ length text) where
-    pub no-letter : (getD text at 0 ≡ letterX → ⊥) → numeral (drop at text) ≡ NoNumber
-    unfolding numeral begins
-    no-letter other = rw (drop-cons text at 0 (omega arith), ne-eqb (getD text at 0) letterX other)
+  pub digits-start : at + 17 ≤ length text → numeral (drop at text) ≡ digitsFrom (eqb (getD text at 0) letterX) 16 0 (drop (at + 1) text)
+  unfolding numeral begins digitsFrom valueOf
+  digits-start room = rw (add-one at, drop-cons text at 0 (omega arith))
 
-    pub digits-start : getD text at 0 ≡ letterX → numeral (drop at text) ≡ digitsFrom 16 0 (drop (at + 1) text)
-    unfolding numeral begins digitsFrom valueOf
-    digits-start letter = rw (add-one at, drop-cons text at 0 (omega arith), eq-eqb (getD text at 0) letterX letter)
-
-    module _ (i v : ℕ) (more : i < 16) where
-      here : digitsFrom (16 - i) v (drop (at + (i + 1)) text) ≡ digitsFrom (suc (16 - (i + 1))) v (getD text (at + (i + 1)) 0 ∷ drop (at + (i + 1 + 1)) text)
-      here =
-          let one : 16 - i ≡ suc (16 - (i + 1)) = omega arith in
-          let next : at + (i + 1 + 1) ≡ suc (at + (i + 1)) = omega arith in
-          rw (one, next, drop-cons text (at + (i + 1)) 0 (omega arith))
-
-      pub digits-stop : isDigit (getD text (at + (i + 1)) 0) ≡ false → digitsFrom (16 - i) v (drop (at + (i + 1)) text) ≡ NoNumber
-      unfolding digitsFrom begins
-      digits-stop other = here ∙ rw other
-
-      pub digits-turn : isDigit (getD text (at + (i + 1)) 0) ≡ true
-          → digitsFrom (16 - i) v (drop (at + (i + 1)) text) ≡ digitsFrom (16 - (i + 1)) (v * 16 + digitValue (getD text (at + (i + 1)) 0)) (drop (at + (i + 1 + 1)) text)
-      unfolding digitsFrom begins valueFrom
-      digits-turn is = here ∙ rw is
+  pub digits-turn : at + 17 ≤ length text → (good : Bool) (i v : ℕ) → i < 16 → let c = getD text (at + (i + 1)) 0 in
+      digitsFrom good (16 - i) v (drop (at + (i + 1)) text) ≡ digitsFrom (good && isDigit c) (16 - (i + 1)) (v * 16 + digitValue c) (drop (at + (i + 1 + 1)) text)
+  unfolding digitsFrom begins valueFrom
+  digits-turn room good i v more =
+      let one : 16 - i ≡ suc (16 - (i + 1)) = omega arith in
+      let next : at + (i + 1 + 1) ≡ suc (at + (i + 1)) = omega arith in
+      rw (one, next, drop-cons text (at + (i + 1)) 0 (omega arith), and-assoc)
 
 -- i digits make a number below 16 ^ i, and one digit more fits where that is the 16th at most
 pub value-room : (v i : ℕ) → v < 16 ^ i → i < 16 → v * 16 + 15 < 2 ^ 64

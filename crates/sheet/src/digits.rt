@@ -50,18 +50,18 @@ pub fn number(text: &[u8], at: usize) -> Numeral
     if !has_room(text.len(), at, DIGITS + 1) {
         return Numeral::NoNumber;
     }
-    if text[at] != b'x' {
-        return Numeral::NoNumber;
-    }
+    let mut good = text[at] == b'x';
     let mut v: u64 = 0;
     let mut i = 0;
     while i < DIGITS {
         i += 1;
         let c = text[at + i];
-        if !is_digit(c) {
-            return Numeral::NoNumber;
-        }
+        good = good & is_digit(c);
         v = v * 16 + digit_value(c);
     }
-    Numeral::Number(v)
+    if good {
+        Numeral::Number(v)
+    } else {
+        Numeral::NoNumber
+    }
 }
