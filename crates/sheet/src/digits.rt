@@ -27,8 +27,8 @@ pub(crate) fn is_digit(c: u8) -> bool
 fn digit_value(c: u8) -> u64
     ensures { λ r. ⌜ r ≡ digitValueOf c ⌝ }
 {
-    let low = (c as u64) % 16;
-    if c < 58 { low } else { (low + 9) % 16 }
+    let moved = if c < 58 { c as u64 } else { c as u64 + 9 };
+    moved % 16
 }
 
 // The digit for 0 to 15.
