@@ -1,6 +1,6 @@
 -- The turns of the loops: what each definition gives from a place on, in the terms of the code. Assumes nothing.
 use Prim.Native.Nat.{ℕ, suc, _+_, _-_, _*_, _/_, _%_, _^_, _<_, _≤_}
-use mathlib.Core.Path.{_≡_, refl, ap, _∙_}
+use mathlib.Core.Path.{_≡_, ap, _∙_}
 use mathlib.Core.Bool.{Bool, false, true, cond, and-true, and-assoc, _&&_}
 use mathlib.Core.List.{List, [], _∷_, _++_}
 use native.Mathlib.Nat.{pow-suc, pow-le-pow-right}
@@ -20,7 +20,7 @@ use Rattle.sheet.specs.declared.digits.Numeral.the-variants.{Number, NoN
 use Rattle.sheet.proofs.DigitLaws.{hex-length, number-length}
 use Rattle.sheet.proofs.Fields.{fields-length, forms-length}
 use Rattle.sheet.proofs.LineLaws.{line-long}
-use Rattle.sheet.proofs.FormLaws.{begins-room, begins-append, begins-take}
+use Rattle.sheet.proofs.FormLaws.{begins-short, begins-append, begins-take}
 use borrow.Author.Tests.{lt-leb, leb-false, eq-eqb, ne-eqb}
 
 -- ---- a form against a text
@@ -30,17 +30,14 @@ unfolding begins
 feed-test u i more = rw (drop-cons u i 0 more, and-true)
 
 module _ (marks text : List ℕ) (i : ℕ) where
-  pub begins-turn : i < length marks → i < length text → begins (drop i marks) (drop i text) ≡ (fitsMark (getD marks i 0) (getD text i 0) && begins (drop (i + 1) marks) (drop (i + 1) text))
+  pub begins-turn : length marks ≤ length text → i < length marks → (good : Bool)
+      → (good && begins (drop i marks) (drop i text)) ≡ ((good && fitsMark (getD marks i 0) (getD text i 0)) && begins (drop (i + 1) marks) (drop (i + 1) text))
   unfolding begins
-  begins-turn more there = rw (add-one i, drop-cons marks i 0 more, drop-cons text i 0 there)
+  begins-turn room more good = rw (add-one i, drop-cons marks i 0 more, drop-cons text i 0 (omega arith), and-assoc)
 
-  pub begins-short : i < length marks → length text ≤ i → begins (drop i marks) (drop i text) ≡ false
+  pub begins-end : length marks ≤ i → (good : Bool) → (good && begins (drop i marks) (drop i text)) ≡ good
   unfolding begins
-  begins-short more end = rw (drop-cons marks i 0 more, drop-of-length-le text end)
-
-  pub begins-end : length marks ≤ i → begins (drop i marks) (drop i text) ≡ true
-  unfolding begins
-  begins-end end = rw (drop-of-length-le marks end)
+  begins-end end good = rw (drop-of-length-le marks end, and-true)
 
 -- fields of which the first is tested by itself
 pub fields-stand-turn : (left here : ℕ) (text : List ℕ) → 0 < left
@@ -92,14 +89,9 @@ digits-end good i v u end = let none : 16 - i ≡ 0 = omega arith in rw (none, a
 module _ (text : List ℕ) (at : ℕ) where
   pub no-room : inside (length text) at 17 ≡ false → numeral (drop at text) ≡ NoNumber
   unfolding numeral inside
-  no-room short = go (begins numberForm (drop at text)) refl
-    where
-      go : (b : Bool) → begins numberForm (drop at text) ≡ b → numeral (drop at text) ≡ NoNumber
-      go true e =
-          let room = begins-room numberForm (drop at text) e in
-          let less = leb-false (at + 17) (length text) short in
-          let left = length-drop at text in absurd (omega arith)
-      go false e = rw e
+  no-room short =
+      let less = leb-false (at + 17) (length text) short in
+      let left = length-drop at text in rw (begins-short numberForm (drop at text) (omega arith))
 
   pub digits-start : at + 17 ≤ length text → numeral (drop at text) ≡ digitsFrom (eqb (getD text at 0) letterX) 16 0 (drop (at + 1) text)
   unfolding numeral begins digitsFrom valueOf

@@ -25,17 +25,16 @@ fn fits_mark(mark: u8, c: u8) -> bool
 pub(crate) fn begins(form: &[u8], text: &[u8]) -> bool
     ensures { λ r. ⌜ r ≡ beginsWith (now (form .entry)) (now (text .entry)) ⌝ }
 {
+    if text.len() < form.len() {
+        return false;
+    }
+    let mut good = true;
     let mut i = 0;
     while i < form.len() {
-        if text.len() <= i {
-            return false;
-        }
-        if !fits_mark(form[i], text[i]) {
-            return false;
-        }
+        good = good & fits_mark(form[i], text[i]);
         i += 1;
     }
-    true
+    good
 }
 
 // Whether so many numbers, each behind a tab, stand at a place.
