@@ -20,13 +20,14 @@ pub enum Numeral {
 pub(crate) fn is_digit(c: u8) -> bool
     ensures { λ r. ⌜ r ≡ isDigit c ⌝ }
 {
-    (48 <= c && c <= 57) || (97 <= c && c <= 102)
+    (b'0' <= c && c <= b'9') || (b'a' <= c && c <= b'f')
 }
 
 // What a digit stands for; of any other character, some number below 16.
 fn digit_value(c: u8) -> u64
     ensures { λ r. ⌜ r ≡ digitValueOf c ⌝ }
 {
+    // By 16 the codes of 0 to 9 leave 0 to 9, those of a to f 1 to 6.
     let moved = if c < 58 { c as u64 } else { c as u64 + 9 };
     moved % 16
 }
@@ -43,7 +44,8 @@ pub(crate) fn digit(d: u64) -> u8
     }
 }
 
-// The number at a place of a text, or that none stands there.
+// The number at a place of a text, or that none stands there. The loop has one way out, so that the machine
+// takes several characters at once.
 pub fn number(text: &[u8], at: usize) -> Numeral
     ensures { λ r. ⌜ r ≡ numeral (drop at (now (text .entry))) ⌝ }
 {

@@ -21,7 +21,7 @@ fn fits_mark(mark: u8, c: u8) -> bool
     }
 }
 
-// Whether a text begins with this form.
+// Whether a text begins with this form. The loop has one way out, as that of `number`.
 pub(crate) fn begins(form: &[u8], text: &[u8]) -> bool
     ensures { λ r. ⌜ r ≡ beginsWith (now (form .entry)) (now (text .entry)) ⌝ }
 {
