@@ -1,7 +1,7 @@
 -- A text that begins with a form: how it splits where the form does, how long it is, and what its first line is. Assumes nothing.
-use Prim.Native.Nat.{ℕ, zero, suc, _≤_}
+use Prim.Native.Nat.{ℕ, zero, suc, _<_, _≤_}
 use mathlib.Core.Path.{_≡_, refl, sym, ap, ap₂, _∙_}
-use mathlib.Core.Bool.{Bool, true, false, false≢true, not, _&&_, and-assoc}
+use mathlib.Core.Bool.{Bool, true, false, false≢true, not, _&&_, and-assoc, and-false}
 use mathlib.Core.List.{List, [], _∷_, _++_}
 use native.Mathlib.Omega.{arith}
 use lib.ListN.{length, take, drop}
@@ -20,6 +20,12 @@ unfolding begins
 begins-room [] u h = omega arith
 begins-room (m ∷ ms) [] h = absurd (false≢true h)
 begins-room (m ∷ ms) (c ∷ cs) h = let rest = begins-room ms cs (both (fitsMark m c) (begins ms cs) h .1) in omega arith
+
+pub begins-short : (marks u : List ℕ) → length u < length marks → begins marks u ≡ false
+unfolding begins
+begins-short [] u short = absurd (omega arith)
+begins-short (m ∷ ms) [] short = refl
+begins-short (m ∷ ms) (c ∷ cs) short = rw (begins-short ms cs (omega arith), and-false)
 
 -- only as many characters count as the form has
 pub begins-take : (marks u : List ℕ) (n : ℕ) → length marks ≤ n → begins marks (take n u) ≡ begins marks u

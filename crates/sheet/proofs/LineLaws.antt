@@ -35,7 +35,7 @@ use Rattle.sheet.specs.declared.line.Line.{Line}
 use Rattle.sheet.specs.declared.line.Line.the-variants.{Sheet, State, Page, Word, Do}
 use Rattle.sheet.proofs.DigitLaws.{both, and-both, same}
 use Rattle.sheet.proofs.Fields.{forms-length, values-length, forms-lack-feed, fields-begin, number-in, value-in, value-small, values-fields, fields-values}
-use Rattle.sheet.proofs.FormLaws.{begins-room, begins-take, begins-more, begins-parts, begins-both, lacks, lacks-append, letters-begin, begins-letters, lines-begins, begins-next}
+use Rattle.sheet.proofs.FormLaws.{begins-room, begins-short, begins-take, begins-more, begins-parts, begins-both, lacks, lacks-append, letters-begin, begins-letters, lines-begins, begins-next}
 pub use Rattle.sheet.proofs.DigitLaws.{hex-length, number-length, value-below}
 pub use Rattle.sheet.proofs.Fields.{fields-length}
 pub use Rattle.sheet.proofs.FormLaws.{joined-lines}
@@ -141,13 +141,9 @@ marks-lack-feed kind = lacks-append lineFeed (name kind) (fieldForms (fieldCount
 pub line-room : (kind : Line) (u : List ℕ) → begins (form kind) u ≡ true → width kind ≤ length u
 line-room kind u h = let room = begins-room (form kind) u h in let long = form-length kind in omega arith
 
-not-so : (b : Bool) → (b ≡ true → ⊥) → b ≡ false
-not-so true other = absurd (other refl)
-not-so false other = refl
-
 -- no line stands in a text that is too short for it, so none in an empty one
 pub line-short : (kind : Line) (u : List ℕ) → length u < width kind → begins (form kind) u ≡ false
-line-short kind u short = not-so (begins (form kind) u) (λ h. let room = line-room kind u h in omega arith)
+line-short kind u short = begins-short (form kind) u (rw (form-length kind) short)
 
 pub nothing-begins : (kind : Line) → begins (form kind) [] ≡ false
 nothing-begins kind = line-short kind [] (omega arith)

@@ -1,26 +1,27 @@
 -- The turns of the loops: what each definition gives from a place on, in the terms of the code. Assumes nothing.
 use Prim.Native.Nat.{ℕ, suc, _+_, _-_, _*_, _/_, _%_, _^_, _<_, _≤_}
 use mathlib.Core.Path.{_≡_, ap, _∙_}
-use mathlib.Core.Bool.{Bool, false, true, and-true, _&&_}
+use mathlib.Core.Bool.{Bool, false, true, cond, and-true, and-assoc, _&&_}
 use mathlib.Core.List.{List, [], _∷_, _++_}
 use native.Mathlib.Nat.{pow-suc, pow-le-pow-right}
 use native.Mathlib.Numerals.{add-one}
 use native.Mathlib.Omega.{arith}
 use lib.Dec.{lit<, eqb}
-use lib.ListN.{length, getD, take, drop, set, length-drop, drop-of-length-le}
+use lib.ListN.{length, getD, take, drop, set, replicate, length-drop, drop-of-length-le}
 use lib.Seq.{take-all, drop-cons, drop-drop}
-use Rattle.sheet.specs.Digits.{digit, digitValue, hex, number, tab, lineFeed, valueFrom, valueOf}
+use Rattle.sheet.specs.Digits.{digit, isDigit, digitValue, hex, number, tab, lineFeed, letterX, valueFrom, valueOf}
 use Rattle.numbers.specs.Numbers.{inside}
 use Rattle.numbers.specs.Buffers.{laid, laidIf}
 use Rattle.numbers.proofs.Laws.{length-laid, laid-last, laid-nil, laid-turn}
-use Rattle.sheet.specs.Lines.{name, fieldCount, numberForm, fieldForms, begins, fitsMark, numeral, fields, form, first, width, lineOf, line, fitsLine, putLine}
+use Rattle.sheet.specs.Lines.{name, fieldCount, anyDigit, numberForm, fieldForms, begins, fitsMark, numeral, fields, form, first, width, lineOf, line, fitsLine, putLine}
 use Rattle.sheet.specs.declared.line.Line.{Line}
+use Rattle.sheet.specs.declared.digits.Numeral.{Numeral}
 use Rattle.sheet.specs.declared.digits.Numeral.the-variants.{Number, NoNumber}
 use Rattle.sheet.proofs.DigitLaws.{hex-length, number-length}
 use Rattle.sheet.proofs.Fields.{fields-length, forms-length}
 use Rattle.sheet.proofs.LineLaws.{line-long}
-use Rattle.sheet.proofs.FormLaws.{begins-room, begins-append, begins-take}
-use borrow.Author.Tests.{lt-leb, eq-eqb, ne-eqb}
+use Rattle.sheet.proofs.FormLaws.{begins-short, begins-append, begins-take}
+use borrow.Author.Tests.{lt-leb, leb-false, eq-eqb, ne-eqb}
 
 -- ---- a form against a text
 
@@ -29,17 +30,14 @@ unfolding begins
 feed-test u i more = rw (drop-cons u i 0 more, and-true)
 
 module _ (marks text : List ℕ) (i : ℕ) where
-  pub begins-turn : i < length marks → i < length text → begins (drop i marks) (drop i text) ≡ (fitsMark (getD marks i 0) (getD text i 0) && begins (drop (i + 1) marks) (drop (i + 1) text))
+  pub begins-turn : length marks ≤ length text → i < length marks → (good : Bool)
+      → (good && begins (drop i marks) (drop i text)) ≡ ((good && fitsMark (getD marks i 0) (getD text i 0)) && begins (drop (i + 1) marks) (drop (i + 1) text))
   unfolding begins
-  begins-turn more there = rw (add-one i, drop-cons marks i 0 more, drop-cons text i 0 there)
+  begins-turn room more good = rw (add-one i, drop-cons marks i 0 more, drop-cons text i 0 (omega arith), and-assoc)
 
-  pub begins-short : i < length marks → length text ≤ i → begins (drop i marks) (drop i text) ≡ false
+  pub begins-end : length marks ≤ i → (good : Bool) → (good && begins (drop i marks) (drop i text)) ≡ good
   unfolding begins
-  begins-short more end = rw (drop-cons marks i 0 more, drop-of-length-le text end)
-
-  pub begins-end : length marks ≤ i → begins (drop i marks) (drop i text) ≡ true
-  unfolding begins
-  begins-end end = rw (drop-of-length-le marks end)
+  begins-end end good = rw (drop-of-length-le marks end, and-true)
 
 -- fields of which the first is tested by itself
 pub fields-stand-turn : (left here : ℕ) (text : List ℕ) → 0 < left
@@ -80,32 +78,32 @@ rest-whole text at = take-all (length text - at) (drop at text) (simp length-dro
 
 -- ---- a number at a place
 
+-- what n characters give behind those that were read before: these were good or not, and made v
+unfoldable pub digitsFrom : Bool → ℕ → ℕ → List ℕ → Numeral
+digitsFrom good n v u = cond (good && begins (replicate n anyDigit) u) (Number (valueFrom v (take n u))) NoNumber
+
+pub digits-end : (good : Bool) (i v : ℕ) (u : List ℕ) → 16 ≤ i → digitsFrom good (16 - i) v u ≡ cond good (Number v) NoNumber
+unfolding digitsFrom begins valueFrom
+digits-end good i v u end = let none : 16 - i ≡ 0 = omega arith in rw (none, and-true)
+
 module _ (text : List ℕ) (at : ℕ) where
-  pub no-numeral : length text ≤ at → numeral (drop at text) ≡ NoNumber
-  unfolding numeral begins
-  no-numeral end = rw (drop-of-length-le text end)
+  pub no-room : inside (length text) at 17 ≡ false → numeral (drop at text) ≡ NoNumber
+  unfolding numeral inside
+  no-room short =
+      let less = leb-false (at + 17) (length text) short in
+      let left = length-drop at text in rw (begins-short numberForm (drop at text) (omega arith))
 
-  pub no-form : begins numberForm (drop at text) ≡ false → numeral (drop at text) ≡ NoNumber
-  unfolding numeral
-  no-form other = rw other
+  pub digits-start : at + 17 ≤ length text → numeral (drop at text) ≡ digitsFrom (eqb (getD text at 0) letterX) 16 0 (drop (at + 1) text)
+  unfolding numeral begins digitsFrom valueOf
+  digits-start room = rw (add-one at, drop-cons text at 0 (omega arith))
 
-  pub formed-numeral : begins numberForm (drop at text) ≡ true → numeral (drop at text) ≡ Number (valueOf (take 16 (drop (at + 1) text)))
-  unfolding numeral
-  formed-numeral formed = rw (formed, drop-drop 1 at text)
-
-  pub formed-room : begins numberForm (drop at text) ≡ true → at + 1 + 16 ≤ length text
-  formed-room formed = let room = begins-room numberForm (drop at text) formed in let left = length-drop at text in omega arith
-
--- ---- digits, read from the left
-
-module _ (cs : List ℕ) (i v : ℕ) where
-  pub value-turn : i < length cs → valueFrom v (drop i cs) ≡ valueFrom (v * 16 + digitValue (getD cs i 0)) (drop (i + 1) cs)
-  unfolding valueFrom
-  value-turn more = rw (add-one i, drop-cons cs i 0 more)
-
-  pub value-end : length cs ≤ i → valueFrom v (drop i cs) ≡ v
-  unfolding valueFrom
-  value-end end = rw (drop-of-length-le cs end)
+  pub digits-turn : at + 17 ≤ length text → (good : Bool) (i v : ℕ) → i < 16 → let c = getD text (at + (i + 1)) 0 in
+      digitsFrom good (16 - i) v (drop (at + (i + 1)) text) ≡ digitsFrom (good && isDigit c) (16 - (i + 1)) (v * 16 + digitValue c) (drop (at + (i + 1 + 1)) text)
+  unfolding digitsFrom begins valueFrom
+  digits-turn room good i v more =
+      let one : 16 - i ≡ suc (16 - (i + 1)) = omega arith in
+      let next : at + (i + 1 + 1) ≡ suc (at + (i + 1)) = omega arith in
+      rw (one, next, drop-cons text (at + (i + 1)) 0 (omega arith), and-assoc)
 
 -- i digits make a number below 16 ^ i, and one digit more fits where that is the 16th at most
 pub value-room : (v i : ℕ) → v < 16 ^ i → i < 16 → v * 16 + 15 < 2 ^ 64

@@ -2,30 +2,14 @@
 ghost use mathlib.Core.Path.{_≡_};
 ghost use Prim.Native.Nat.{_+_, _*_, _≤_};
 ghost use lib.ListN.{length, drop};
-ghost use Rattle.sheet.specs.Digits.{isDigit};
 ghost use Rattle.sheet.specs.Lines.{fieldBytes, fieldForms, begins as beginsWith, fitsMark};
+use crate::digits::is_digit;
 
 // How many bytes a number has with the tab before it.
 pub const FIELD: usize = 18;
 
 // A mark of a form that stands for any digit.
 const ANY_DIGIT: u8 = b'#';
-
-// Whether a character is a digit, 0 to 9 or a to f.
-fn is_digit(c: u8) -> bool
-    ensures { λ r. ⌜ r ≡ isDigit c ⌝ }
-{
-    if c < 48 {
-        return false;
-    }
-    if c <= 57 {
-        return true;
-    }
-    if c < 97 {
-        return false;
-    }
-    c <= 102
-}
 
 fn fits_mark(mark: u8, c: u8) -> bool
     ensures { λ r. ⌜ r ≡ fitsMark mark c ⌝ }
@@ -37,21 +21,20 @@ fn fits_mark(mark: u8, c: u8) -> bool
     }
 }
 
-// Whether a text begins with this form.
+// Whether a text begins with this form. The loop has one way out, as that of `number`.
 pub(crate) fn begins(form: &[u8], text: &[u8]) -> bool
     ensures { λ r. ⌜ r ≡ beginsWith (now (form .entry)) (now (text .entry)) ⌝ }
 {
+    if text.len() < form.len() {
+        return false;
+    }
+    let mut good = true;
     let mut i = 0;
     while i < form.len() {
-        if text.len() <= i {
-            return false;
-        }
-        if !fits_mark(form[i], text[i]) {
-            return false;
-        }
+        good = good & fits_mark(form[i], text[i]);
         i += 1;
     }
-    true
+    good
 }
 
 // Whether so many numbers, each behind a tab, stand at a place.

@@ -1,20 +1,19 @@
 -- `digit_value` meets its contract. Assumes nothing.
+use mathlib.Core.Logic.{⊎-elim}
+use native.Mathlib.Omega.{arith}
 use Rattle.sheet.specs.Digits.{digitValue}
 use borrow.Author.Tests.{lt-ltb, le-ltb}
 use borrow.Author.Needs.{needs}
 use Rattle.sheet.proofs.digits.digit_value.Statement.{statement}
 use Rattle.sheet.proofs.digits.digit_value.Tie as tie
 
-add-result : tie.Need-add-result
-add-result c = search needs
+add-moved : tie.Need-add-moved
+add-moved c = search needs
 
 returns : tie.Need-returns
 unfolding digitValue
-returns c = rw (lt-ltb _ 58 (c .if1 .taken))
-
-returns-2 : tie.Need-returns-2
-unfolding digitValue
-returns-2 c = rw (le-ltb _ 58 (c .if1 .left))
+returns c =
+    ⊎-elim (λ w. rw (lt-ltb _ 58 (w .0 .taken)) (omega arith)) (λ w. rw (le-ltb _ 58 (w .0 .left)) (omega arith)) (c .before .if1 .came)
 
 pub digit-value-spec : {M : Type 1} → statement M
-digit-value-spec = tie.close (tie.spec add-result returns returns-2)
+digit-value-spec = tie.close (tie.spec add-moved returns)

@@ -1,94 +1,106 @@
--- `number` meets its contract: the form is that of the definition, and so are its digits. Assumes nothing.
-use Prim.Native.Nat.{_+_, _-_}
-use mathlib.Core.Path.{_≡_, sym, ap, _∙_}
-use mathlib.Core.Bool.{true}
+-- `number` meets its contract. The invariant: the characters from here on, behind those that were read, give the whole number.
+-- Assumes nothing.
+use Prim.Native.Nat.{_+_, _-_, _^_, _<_, _≤_}
+use mathlib.Core.Path.{_≡_, sym, _∙_}
 use native.Mathlib.Omega.{arith}
-use lib.ListN.{drop}
-use Rattle.sheet.specs.Lines.{numberForm, begins}
+use lib.ListN.{length, drop}
+use Rattle.sheet.specs.Lines.{numeral}
 use borrow.Author.Tests.{not-true, not-false}
-use Rattle.sheet.proofs.Turns.{no-numeral, no-form, formed-numeral, formed-room, rest-whole}
+use Rattle.numbers.proofs.Laws.{ends-inside}
+use Rattle.sheet.proofs.DigitLaws.{digit-below}
+use Rattle.sheet.proofs.Turns.{digitsFrom, no-room, digits-start, digits-turn, digits-end, value-room, value-grows}
 use borrow.Author.Needs.{needs}
 use Rattle.sheet.proofs.digits.number.Statement.{statement}
 use Rattle.sheet.proofs.digits.number.Tie as tie
 
-returns : tie.Need-returns
-returns c = sym (no-numeral _ _ (c .if1 .taken))
+abbrev Inv-loop : tie.InvT-loop
+Inv-loop text at good₀ v₀ i₀ good v i = (numeral (drop at text) ≡ digitsFrom good (16 - i) v (drop (at + (i + 1)) text)) × (v < 16 ^ i) × (i ≤ 16)
 
-slice-aggregate-begins : tie.Need-slice-aggregate-begins
-slice-aggregate-begins c = search needs
+abbrev μ-loop : tie.MeasureT-loop
+μ-loop text at good₀ v₀ i₀ good v i = 16 - i
 
-sub-begins : tie.Need-sub-begins
-sub-begins c = search needs
+add-has-room : tie.Need-add-has-room Inv-loop μ-loop
+add-has-room c = search needs
 
-part-begins-start : tie.Need-part-begins-start
-part-begins-start c = search needs
+has-room-requires : tie.Need-has-room-requires Inv-loop μ-loop
+has-room-requires c κs = search needs
 
-part-begins-end : tie.Need-part-begins-end
-part-begins-end c = search needs
+returns : tie.Need-returns Inv-loop μ-loop
+returns c =
+    let args = c .before .before .before .args in
+    sym (no-room (args .text .now) (args .at) (sym (c .before .has-room .ensures) ∙ not-true _ (c .if1 .taken)))
 
-begins-requires : tie.Need-begins-requires
-begins-requires c κs = search needs
+room : (c : tie.Else1 Inv-loop μ-loop) → let args = c .before .before .before .args in args .at + 17 ≤ length (args .text .now)
+room c = ends-inside _ _ _ (sym (c .before .has-room .ensures) ∙ not-false _ (c .if1 .left))
 
--- the form, tested on the rest of the text
-tested : (c : tie.After-begins) →
-    let args = c .before .before .before .before .before .args in
-    c .begins .result ≡ begins numberForm (drop (args .at) (args .text .now))
-tested c =
-    let args = c .before .before .before .before .before .args in
-    c .begins .ensures ∙ ap (begins numberForm) (rest-whole (args .text .now) (args .at))
+shared-slice-read-good : tie.Need-shared-slice-read-good Inv-loop μ-loop
+shared-slice-read-good c = omega (arith, room (c .before))
 
-returns-2 : tie.Need-returns-2
-returns-2 c =
-    let args = c .before .before .before .before .before .before .args in
-    sym (no-form (args .text .now) (args .at) (sym (tested (c .before)) ∙ not-true _ (c .if2 .taken)))
+loop-holds : tie.Need-loop-holds Inv-loop μ-loop
+loop-holds c = (digits-start _ _ (room (c .before)), omega arith, omega arith)
 
-formed : (c : tie.Else2) →
-    let args = c .before .before .before .before .before .before .args in
-    begins numberForm (drop (args .at) (args .text .now)) ≡ true
-formed c = sym (tested (c .before)) ∙ not-false _ (c .if2 .left)
+add-i : tie.Need-add-i Inv-loop μ-loop
+add-i c = omega arith
 
-add-first : tie.Need-add-first
-add-first c = search needs
+add-c : tie.Need-add-c Inv-loop μ-loop
+add-c c = omega (arith, room (c .before .before .before))
 
-add-end : tie.Need-add-end
-add-end c = search needs
+shared-slice-read-c : tie.Need-shared-slice-read-c Inv-loop μ-loop
+shared-slice-read-c c = omega (arith, room (c .before .before .before .before))
 
-sub-value : tie.Need-sub-value
-sub-value c = search needs
+is-digit-requires : tie.Need-is-digit-requires Inv-loop μ-loop
+is-digit-requires c κs = search needs
 
-part-value-start : tie.Need-part-value-start
-part-value-start c = search needs
+mul-v : tie.Need-mul-v Inv-loop μ-loop
+mul-v c = omega (arith, value-room _ _ (c .before .before .before .loop .inv .1) (omega arith))
 
-part-value-end : tie.Need-part-value-end
-part-value-end c =
-    let args = c .before .before .before .before .before .before .args in
-    formed-room (args .text .now) (args .at) (formed c)
+digit-value-requires : tie.Need-digit-value-requires Inv-loop μ-loop
+digit-value-requires c κs = search needs
 
-value-requires : tie.Need-value-requires
-value-requires c κs = search needs
+small : (c : tie.After-digit-value Inv-loop μ-loop) → c .digit-value .result < 16
+small c = rw (c .digit-value .ensures) (digit-below _)
 
-returns-3 : tie.Need-returns-3
-returns-3 c =
-    let else2 = c .before .before in
-    let args = else2 .before .before .before .before .before .before .args in
-    let same : args .at + 1 + 16 - (args .at + 1) ≡ 16 = omega arith in
-    rw (c .value .ensures, same) (sym (formed-numeral (args .text .now) (args .at) (formed else2)))
+add-v : tie.Need-add-v Inv-loop μ-loop
+add-v c = omega (arith, small c, value-room _ _ (c .before .before .before .before .loop .inv .1) (omega arith))
+
+loop-less : tie.Need-loop-less Inv-loop μ-loop
+loop-less c = omega arith
+
+loop-again : tie.Need-loop-again Inv-loop μ-loop
+loop-again c =
+    let in-loop = c .before .before .before in
+    let at-loop = in-loop .before in (
+      at-loop .loop .inv .0
+          ∙ rw (c .before .is-digit .ensures, c .digit-value .ensures) (digits-turn _ _ (room (at-loop .before .before)) _ _ _ (in-loop .loop-test .taken)),
+      value-grows _ _ _ (at-loop .loop .inv .1) (small c),
+      omega arith,
+    )
+
+returns-2 : tie.Need-returns-2 Inv-loop μ-loop
+returns-2 c = rw (c .before .before .loop .inv .0, digits-end _ _ _ _ (c .before .loop-test .left), c .if2 .taken)
+
+returns-3 : tie.Need-returns-3 Inv-loop μ-loop
+returns-3 c = rw (c .before .before .loop .inv .0, digits-end _ _ _ _ (c .before .loop-test .left), c .if2 .left)
 
 pub number-spec : {M : Type 1} → statement M
 number-spec =
     tie.close
     (tie.spec
+    Inv-loop
+    μ-loop
+    add-has-room
+    has-room-requires
     returns
-    slice-aggregate-begins
-    sub-begins
-    part-begins-start
-    part-begins-end
-    begins-requires
+    shared-slice-read-good
+    loop-holds
+    add-i
+    add-c
+    shared-slice-read-c
+    is-digit-requires
+    mul-v
+    digit-value-requires
+    add-v
+    loop-less
+    loop-again
     returns-2
-    add-first
-    add-end
-    sub-value
-    part-value-start
-    part-value-end
-    value-requires
     returns-3)
