@@ -1,6 +1,6 @@
 -- The turns of the loops: what each definition gives from a place on, in the terms of the code. Assumes nothing.
 use Prim.Native.Nat.{ℕ, suc, _+_, _-_, _*_, _/_, _%_, _^_, _<_, _≤_}
-use mathlib.Core.Path.{_≡_, ap, _∙_}
+use mathlib.Core.Path.{_≡_, sym, ap, _∙_}
 use mathlib.Core.Bool.{Bool, false, true, cond, and-true, and-assoc, _&&_}
 use mathlib.Core.List.{List, [], _∷_, _++_}
 use native.Mathlib.Nat.{pow-suc, pow-le-pow-right}
@@ -14,7 +14,9 @@ use Rattle.numbers.specs.Numbers.{inside}
 use Rattle.numbers.specs.Buffers.{laid, laidIf}
 use Rattle.numbers.proofs.Laws.{length-laid, laid-last, laid-nil, laid-turn}
 use Rattle.sheet.specs.Lines.{name, fieldCount, anyDigit, numberForm, fieldForms, begins, fitsMark, numeral, fields, form, first, width, lineOf, line, fitsLine, putLine}
+use Rattle.sheet.specs.Names.{Spells}
 use Rattle.sheet.specs.declared.line.Line.{Line}
+use Rattle.sheet.specs.declared.line.Name.{Name}
 use Rattle.sheet.specs.declared.digits.Numeral.{Numeral}
 use Rattle.sheet.specs.declared.digits.Numeral.the-variants.{Number, NoNumber}
 use Rattle.sheet.proofs.DigitLaws.{hex-length, number-length}
@@ -181,10 +183,13 @@ module _ (kind : Line) (vs out : List ℕ) (at : ℕ) where
   unfolding putLine
   line-kept other = rw (other-count other)
 
--- a line of a kind that was told, written by its name
-pub line-told : (kind told : Line) → kind ≡ told → (vs out : List ℕ) (at : ℕ) → length vs ≡ fieldCount kind → (wrote : Bool) (after : List ℕ)
-    → wrote ≡ inside (length out) at (length (lineOf (name told) vs)) → after ≡ laidIf out at (lineOf (name told) vs)
+-- a line written by its kind's name
+pub line-by-name : (kind : Line) (named : List ℕ) → named ≡ name kind → (vs out : List ℕ) (at : ℕ) → length vs ≡ fieldCount kind → (wrote : Bool) (after : List ℕ)
+    → wrote ≡ inside (length out) at (length (lineOf named vs)) → after ≡ laidIf out at (lineOf named vs)
     → (wrote ≡ fitsLine kind (length vs) (length out) at) × (after ≡ putLine kind vs out at)
-line-told kind told same vs out at count wrote after wrote-is after-is =
-    let own : length vs ≡ fieldCount told = count ∙ ap fieldCount same in
-    rw same ((wrote-is ∙ own-count told vs out at own, after-is ∙ own-line told vs out at own))
+line-by-name kind named same vs out at count wrote after wrote-is after-is =
+    (wrote-is ∙ rw same (own-count kind vs out at count), after-is ∙ rw same (own-line kind vs out at count))
+
+-- the letters of a name, as the code lends them
+pub spelled-long : (held : Name) (named : List ℕ) → Spells held named → held .length ≡ length (take (held .length) (held .letters))
+spelled-long held named spells = spells .long ∙ ap length (sym (spells .front))

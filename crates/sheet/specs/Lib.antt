@@ -6,3 +6,5 @@ pub mod Lines
 pub mod Lent
 pub mod Sheets
 pub mod Reading
+-- serves private functions
+pub mod Names

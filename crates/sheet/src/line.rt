@@ -1,10 +1,13 @@
-// The kinds of line that a sheet has, and where one stands in a text. A further kind is a case here, and in `put`.
+// The kinds of line that a sheet has: where one stands in a text, and writing one. A further kind is a case of the enum, of `name` and of
+// `count`.
 ghost use mathlib.Core.Path.{_≡_};
-ghost use lib.ListN.{drop};
-ghost use Rattle.sheet.specs.Lines.{name as nameOf, fieldCount, first as firstOf, width as widthOf, form, begins as beginsWith};
+ghost use lib.ListN.{length, drop};
+ghost use Rattle.sheet.specs.Lines.{name as nameOf, fieldCount, first as firstOf, width as widthOf, form, begins as beginsWith, fitsLine, putLine};
+ghost use Rattle.sheet.specs.Names.{Spells};
 use crate::forms::FIELD;
 use crate::forms::begins;
 use crate::forms::fields_stand;
+use crate::put::put_line;
 use instructions::INSTRUCTION_WORDS;
 use processor::FIELDS;
 
@@ -21,6 +24,12 @@ pub enum Line {
     Do,
 }
 
+// A kind's name, at the front of its letters.
+struct Name {
+    letters: [u8; 5],
+    length: usize,
+}
+
 impl Line {
     // How many numbers a line has.
     pub fn count(self) -> usize
@@ -35,17 +44,38 @@ impl Line {
         }
     }
 
+    fn name(self) -> Name
+        ensures { λ r. ⌜ Spells r (nameOf self) ⌝ }
+    {
+        match self {
+            Line::Sheet => Name {
+                letters: *b"sheet",
+                length: 5,
+            },
+            Line::State => Name {
+                letters: *b"state",
+                length: 5,
+            },
+            Line::Page => Name {
+                letters: *b"page ",
+                length: 4,
+            },
+            Line::Word => Name {
+                letters: *b"word ",
+                length: 4,
+            },
+            Line::Do => Name {
+                letters: *b"do   ",
+                length: 2,
+            },
+        }
+    }
+
     // Where its first number begins, behind the name and a tab.
     pub fn first(self) -> usize
         ensures { λ r. ⌜ r ≡ firstOf self ⌝ }
     {
-        match self {
-            Line::Sheet => 6,
-            Line::State => 6,
-            Line::Page => 5,
-            Line::Word => 5,
-            Line::Do => 3,
-        }
+        self.name().length + 1
     }
 
     // How many bytes a line has.
@@ -59,13 +89,10 @@ impl Line {
     fn is_named(self, text: &[u8]) -> bool
         ensures { λ r. ⌜ r ≡ beginsWith (nameOf self) (now (text .entry)) ⌝ }
     {
-        match self {
-            Line::Sheet => begins(b"sheet", text),
-            Line::State => begins(b"state", text),
-            Line::Page => begins(b"page", text),
-            Line::Word => begins(b"word", text),
-            Line::Do => begins(b"do", text),
-        }
+        let name = self.name();
+        let letters = name.letters;
+        let length = name.length;
+        begins(&letters[..length], text)
     }
 
     // Whether a text begins with a line of this kind: its name, its numbers, a line feed.
@@ -92,5 +119,20 @@ impl Line {
             return false;
         }
         self.leads(&text[at..])
+    }
+
+    // Writes a line with these numbers from a place on, or nothing where they are not as many as such a line has, or it does not fit; and
+    // says which.
+    pub fn put(self, values: &[u64], text: &mut [u8], at: usize) -> bool
+        ensures told { λ r. ⌜ r ≡ fitsLine self (length (now (values .entry))) (length (now (text .entry))) at ⌝ }
+        ensures put { λ _. ⌜ now (text .exit) ≡ putLine self (now (values .entry)) (now (text .entry)) at ⌝ }
+    {
+        if values.len() != self.count() {
+            return false;
+        }
+        let name = self.name();
+        let letters = name.letters;
+        let length = name.length;
+        put_line(&letters[..length], values, text, at)
     }
 }

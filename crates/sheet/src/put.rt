@@ -6,11 +6,10 @@ ghost use lib.ListN.{length};
 ghost use Rattle.numbers.specs.Numbers.{inside};
 ghost use Rattle.numbers.specs.Buffers.{laid, laidIf};
 ghost use Rattle.sheet.specs.Digits.{hex, number, tab};
-ghost use Rattle.sheet.specs.Lines.{fields as fieldsOf, lineOf, fitsLine, putLine};
+ghost use Rattle.sheet.specs.Lines.{fields as fieldsOf, lineOf};
 use crate::digits::DIGITS;
 use crate::digits::digit;
 use crate::forms::FIELD;
-use crate::line::Line;
 use numbers::copy_bytes;
 use numbers::has_room;
 
@@ -65,24 +64,4 @@ pub fn put_line(name: &[u8], values: &[u64], text: &mut [u8], at: usize) -> bool
     put_fields(values, text, at + name.len());
     copy_bytes(b"\n", text, at + ended);
     true
-}
-
-impl Line {
-    // Writes a line with these numbers from a place on, or nothing where they are not as many as such a line has, or it does not fit; and
-    // says which.
-    pub fn put(self, values: &[u64], text: &mut [u8], at: usize) -> bool
-        ensures told { λ r. ⌜ r ≡ fitsLine self (length (now (values .entry))) (length (now (text .entry))) at ⌝ }
-        ensures put { λ _. ⌜ now (text .exit) ≡ putLine self (now (values .entry)) (now (text .entry)) at ⌝ }
-    {
-        if values.len() != self.count() {
-            return false;
-        }
-        match self {
-            Line::Sheet => put_line(b"sheet", values, text, at),
-            Line::State => put_line(b"state", values, text, at),
-            Line::Page => put_line(b"page", values, text, at),
-            Line::Word => put_line(b"word", values, text, at),
-            Line::Do => put_line(b"do", values, text, at),
-        }
-    }
 }

@@ -1,89 +1,30 @@
 -- `Line::is_named` meets its contract: it looks for the name. Assumes nothing.
+use Rattle.sheet.proofs.Turns.{spelled-long}
 use borrow.Author.Needs.{needs}
 use Rattle.sheet.proofs.line.Line.is_named.Statement.{statement}
 use Rattle.sheet.proofs.line.Line.is_named.Tie as tie
 
-enum-told : tie.Need-enum-told
-enum-told c = search needs
+name-requires : tie.Need-name-requires
+name-requires c κs = search needs
+
+array-share-prefix-letters : tie.Need-array-share-prefix-letters
+array-share-prefix-letters c = c .before .name .ensures .room
 
 slice-aggregate-begins : tie.Need-slice-aggregate-begins
-slice-aggregate-begins c = search needs
+slice-aggregate-begins c = spelled-long _ _ (c .before .before .name .ensures)
 
 begins-requires : tie.Need-begins-requires
 begins-requires c κs = search needs
 
-enum-told-2 : tie.Need-enum-told-2
-enum-told-2 c = search needs
-
-slice-aggregate-begins-2 : tie.Need-slice-aggregate-begins-2
-slice-aggregate-begins-2 c = search needs
-
-begins-requires-2 : tie.Need-begins-requires-2
-begins-requires-2 c κs = search needs
-
-enum-told-3 : tie.Need-enum-told-3
-enum-told-3 c = search needs
-
-slice-aggregate-begins-3 : tie.Need-slice-aggregate-begins-3
-slice-aggregate-begins-3 c = search needs
-
-begins-requires-3 : tie.Need-begins-requires-3
-begins-requires-3 c κs = search needs
-
-enum-told-4 : tie.Need-enum-told-4
-enum-told-4 c = search needs
-
-slice-aggregate-begins-4 : tie.Need-slice-aggregate-begins-4
-slice-aggregate-begins-4 c = search needs
-
-begins-requires-4 : tie.Need-begins-requires-4
-begins-requires-4 c κs = search needs
-
-enum-told-5 : tie.Need-enum-told-5
-enum-told-5 c = search needs
-
-slice-aggregate-begins-5 : tie.Need-slice-aggregate-begins-5
-slice-aggregate-begins-5 c = search needs
-
-begins-requires-5 : tie.Need-begins-requires-5
-begins-requires-5 c κs = search needs
-
 returns : tie.Need-returns
-returns c = rw (c .begins .ensures, c .before .before .enum-told .given .1)
-
-returns-2 : tie.Need-returns-2
-returns-2 c = rw (c .begins2 .ensures, c .before .before .enum-told2 .given .1)
-
-returns-3 : tie.Need-returns-3
-returns-3 c = rw (c .begins3 .ensures, c .before .before .enum-told3 .given .1)
-
-returns-4 : tie.Need-returns-4
-returns-4 c = rw (c .begins4 .ensures, c .before .before .enum-told4 .given .1)
-
-returns-5 : tie.Need-returns-5
-returns-5 c = rw (c .begins5 .ensures, c .before .before .enum-told5 .given .1)
+returns c = rw (c .begins .ensures, c .before .before .before .name .ensures .front)
 
 pub is-named-spec : {M : Type 1} → statement M
 is-named-spec =
     tie.close
     (tie.spec
-    enum-told
+    name-requires
+    array-share-prefix-letters
     slice-aggregate-begins
     begins-requires
-    enum-told-2
-    slice-aggregate-begins-2
-    begins-requires-2
-    enum-told-3
-    slice-aggregate-begins-3
-    begins-requires-3
-    enum-told-4
-    slice-aggregate-begins-4
-    begins-requires-4
-    enum-told-5
-    slice-aggregate-begins-5
-    begins-requires-5
-    returns
-    returns-2
-    returns-3
-    returns-4
-    returns-5)
+    returns)
