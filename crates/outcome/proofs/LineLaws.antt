@@ -6,8 +6,8 @@ use native.Mathlib.Omega.{arith}
 use lib.ListN.{length, take}
 use Rattle.numbers.specs.Buffers.{laidIf}
 use Rattle.numbers.proofs.Laws.{laid-if, laid-front, length-laid}
-use Rattle.sheet.specs.Lines.{lineOf}
-use Rattle.sheet.proofs.LineLaws.{line-long}
+use Rattle.texts.specs.Fields.{lineOf}
+use Rattle.texts.proofs.Fields.{line-long}
 
 pub line-front : (name values start line : List ℕ) (n : ℕ) → n ≡ length name + 18 * length values + 1 → n ≤ length start
     → line ≡ laidIf start 0 (lineOf name values) → (n ≤ length line) × (take n line ≡ lineOf name values)

@@ -12,7 +12,7 @@ use Rattle.instructions.specs.Instruction.{instructionWords}
 use Rattle.replay.specs.Run.{Input, inputOf, Run, replayed}
 use Rattle.replay.specs.declared.steps.Tested.{Tested}
 use Rattle.replay.specs.declared.steps.Tested.the-variants.{Passed, Failed}
-use Rattle.sheet.specs.Lines.{lineOf}
+use Rattle.texts.specs.Fields.{lineOf}
 use Rattle.sheet.specs.Lent.{Buffers, tested}
 use Rattle.sheet.specs.Sheets.{savedOf, buffersOf, text}
 use Rattle.sheet.specs.Reading.{Parsed, sheet, noSheet, parsed}

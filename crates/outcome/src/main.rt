@@ -24,10 +24,10 @@ use processor::Formed;
 use processor::Refusal;
 use processor::State;
 use replay::INSTRUCTION_LIMIT;
-use sheet::FIELD;
-use sheet::put_line;
 use sheet_read::Reading;
 use sheet_write::Writing;
+use texts::FIELD;
+use texts::put_line;
 
 // The bytes of the longest text that is read: that of as many full pages and instructions as there can be.
 const TEXT_LIMIT: usize = 413250;

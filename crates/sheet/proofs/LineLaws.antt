@@ -27,27 +27,21 @@ use lib.Dec.{eqb, leb}
 use borrow.Author.Tests.{eq-eqb, eqb-true, leb-true, not-true}
 use Rattle.numbers.specs.Buffers.{laid}
 use Rattle.numbers.proofs.Laws.{lies-inside}
-use Rattle.sheet.specs.Digits.{tab, lineFeed, digits, number, valueOf, Below}
-use Rattle.sheet.specs.Lines.{name, fieldCount, fields, lineOf, line, joined, lines, anyDigit, numberForm, fieldForms, form, begins, numeral, first, width, isLine, valuesIn, values, fitsLine, putLine}
-use Rattle.sheet.specs.declared.digits.Numeral.the-variants.{Number}
+use Rattle.texts.specs.Digits.{tab, lineFeed, digits, number, valueOf, Below}
+use Rattle.texts.specs.Fields.{fields, lineOf, joined, lines, anyDigit, numberForm, fieldForms, begins, numeral, valuesIn}
+use Rattle.sheet.specs.Lines.{name, fieldCount, line, form, first, width, isLine, values, fitsLine, putLine}
+use Rattle.texts.specs.declared.digits.Numeral.the-variants.{Number}
 use Rattle.sheet.specs.Reading.{next}
 use Rattle.sheet.specs.declared.line.Line.{Line}
 use Rattle.sheet.specs.declared.line.Line.the-variants.{Sheet, State, Page, Word, Do}
-use Rattle.sheet.proofs.DigitLaws.{both, and-both, same}
-use Rattle.sheet.proofs.Fields.{forms-length, values-length, forms-lack-feed, fields-begin, number-in, value-in, value-small, values-fields, fields-values}
-use Rattle.sheet.proofs.FormLaws.{begins-room, begins-short, begins-take, begins-more, begins-parts, begins-both, lacks, lacks-append, letters-begin, begins-letters, lines-begins, begins-next}
-pub use Rattle.sheet.proofs.DigitLaws.{hex-length, number-length, value-below}
-pub use Rattle.sheet.proofs.Fields.{fields-length}
-pub use Rattle.sheet.proofs.FormLaws.{joined-lines}
+use Rattle.texts.proofs.DigitLaws.{both, and-both, same}
+use Rattle.texts.proofs.Fields.{fields-length, forms-length, values-length, forms-lack-feed, fields-begin, number-in, value-in, value-small, values-fields, fields-values}
+use Rattle.texts.proofs.FormLaws.{begins-room, begins-short, begins-take, begins-more, begins-parts, begins-both, lacks, lacks-append, letters-begin, begins-letters, lines-begins, joined-lines}
 
 -- ---- how long a line is
 
 width-is : (kind : Line) → width kind ≡ suc (length (name kind) + 18 * fieldCount kind)
 width-is kind = omega arith
-
--- of any name
-pub line-long : (named vs : List ℕ) → length (lineOf named vs) ≡ length named + 18 * length vs + 1
-line-long named vs = rw (length-append named (fields vs ++ (lineFeed ∷ [])), length-append (fields vs) (lineFeed ∷ []), fields-length vs) (omega arith)
 
 pub line-length : (kind : Line) (vs : List ℕ) → length vs ≡ fieldCount kind → length (line kind vs) ≡ width kind
 unfolding line
@@ -147,6 +141,15 @@ line-short kind u short = begins-short (form kind) u (rw (form-length kind) shor
 
 pub nothing-begins : (kind : Line) → begins (form kind) [] ≡ false
 nothing-begins kind = line-short kind [] (omega arith)
+
+-- a form with which the first line begins
+begins-next : (marks u : List ℕ) → begins marks (next (lines u)) ≡ true → begins marks u ≡ true
+unfolding joined
+begins-next marks u h = ap (begins marks) (sym (joined-lines u)) ∙ go (lines u) h
+  where
+    go : (ls : List (List ℕ)) → begins marks (next ls) ≡ true → begins marks (joined ls) ≡ true
+    go [] k = k
+    go (l ∷ ls) k = begins-more marks l (joined ls) k
 
 pub lines-step : (kind : Line) (u : List ℕ) → begins (form kind) u ≡ true → lines u ≡ take (width kind) u ∷ lines (drop (width kind) u)
 lines-step kind u h = rw (← marks-length kind) (lines-begins (marks kind) u (marks-lack-feed kind) (rw form-is at h))

@@ -8,7 +8,8 @@ use lib.ListN.{length, getD, take, drop}
 use lib.Dec.{eqb, leb}
 use Rattle.pages.specs.Pages.{pageOf, pageNumber}
 use Rattle.numbers.specs.Numbers.{littleBytes}
-use Rattle.sheet.specs.Lines.{isLine, values, lines}
+use Rattle.texts.specs.Fields.{lines}
+use Rattle.sheet.specs.Lines.{isLine, values}
 use Rattle.sheet.specs.Sheets.{Page, Saved, slots, version}
 use Rattle.sheet.specs.declared.line.Line.{Line}
 use Rattle.sheet.specs.declared.line.Line.the-variants.{Sheet, State as StateLine, Page as PageLine, Word, Do}

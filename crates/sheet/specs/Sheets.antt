@@ -8,8 +8,9 @@ use lib.ListN.{length, take, drop}
 use lib.Dec.{eqb, leb}
 use Rattle.pages.specs.Pages.{pageBytes, pageOf, pageNumber}
 use Rattle.numbers.specs.Numbers.{numberAt}
-use Rattle.sheet.specs.Digits.{Below}
-use Rattle.sheet.specs.Lines.{fieldCount, line, joined}
+use Rattle.texts.specs.Digits.{Below}
+use Rattle.texts.specs.Fields.{joined}
+use Rattle.sheet.specs.Lines.{fieldCount, line}
 use Rattle.sheet.specs.Lent.{Buffers}
 use Rattle.sheet.specs.declared.line.Line.{Line}
 use Rattle.sheet.specs.declared.line.Line.the-variants.{Sheet, State as StateLine, Page as PageLine, Word, Do}

@@ -2,11 +2,9 @@
 ghost use mathlib.Core.Path.{_≡_};
 ghost use Prim.Native.Nat.{_+_, _*_, _≤_};
 ghost use lib.ListN.{length, drop};
-ghost use Rattle.sheet.specs.Lines.{fieldBytes, fieldForms, begins as beginsWith, fitsMark};
-use crate::digits::is_digit;
-
-// How many bytes a number has with the tab before it.
-pub const FIELD: usize = 18;
+ghost use Rattle.texts.specs.Fields.{fieldBytes, fieldForms, begins as beginsWith, fitsMark};
+use texts::FIELD;
+use texts::is_digit;
 
 // A mark of a form that stands for any digit.
 const ANY_DIGIT: u8 = b'#';

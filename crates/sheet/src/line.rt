@@ -2,14 +2,15 @@
 // `count`.
 ghost use mathlib.Core.Path.{_≡_};
 ghost use lib.ListN.{length, drop};
-ghost use Rattle.sheet.specs.Lines.{name as nameOf, fieldCount, first as firstOf, width as widthOf, form, begins as beginsWith, fitsLine, putLine};
+ghost use Rattle.texts.specs.Fields.{begins as beginsWith};
+ghost use Rattle.sheet.specs.Lines.{name as nameOf, fieldCount, first as firstOf, width as widthOf, form, fitsLine, putLine};
 ghost use Rattle.sheet.specs.Names.{Spells};
-use crate::forms::FIELD;
 use crate::forms::begins;
 use crate::forms::fields_stand;
-use crate::put::put_line;
 use instructions::INSTRUCTION_WORDS;
 use processor::FIELDS;
+use texts::FIELD;
+use texts::put_line;
 
 pub enum Line {
     // The version.

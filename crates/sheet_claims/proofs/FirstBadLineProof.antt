@@ -7,8 +7,9 @@ use native.Mathlib.Numerals.{add-one}
 use native.Mathlib.Omega.{arith}
 use lib.ListN.{length, getD, take, drop, replicate, take-append-drop}
 use lib.Seq.{append-snoc, getD-take, getD-drop, take-append-add, take-append-seam, take-length}
-use Rattle.sheet.specs.Digits.{Below}
-use Rattle.sheet.specs.Lines.{fieldCount, line, isLine, lines}
+use Rattle.texts.specs.Digits.{Below}
+use Rattle.texts.specs.Fields.{lines}
+use Rattle.sheet.specs.Lines.{fieldCount, line, isLine}
 use Rattle.sheet.specs.Sheets.{Saved, Sheeted, Ascending, WholePages, version, sheetLines, text}
 use Rattle.sheet.specs.Reading.{next, Stages, stages, parsed}
 use Rattle.sheet.specs.declared.line.Line.the-variants.{Sheet, State}

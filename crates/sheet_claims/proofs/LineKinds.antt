@@ -7,8 +7,9 @@ use native.Mathlib.Omega.{arith}
 use lib.ListN.{length, getD, drop}
 use lib.Dec.{eqb}
 use borrow.Author.Tests.{eq-eqb, ne-eqb}
-use Rattle.sheet.specs.Digits.{Below}
-use Rattle.sheet.specs.Lines.{fieldCount, line, lines, isLine, values}
+use Rattle.texts.specs.Digits.{Below}
+use Rattle.texts.specs.Fields.{lines}
+use Rattle.sheet.specs.Lines.{fieldCount, line, isLine, values}
 use Rattle.sheet.specs.Sheets.{version}
 use Rattle.sheet.specs.Reading.{noSheet, value, next, isWord, parsedBody, parsedBy, parsedLines}
 use Rattle.sheet.specs.declared.line.Line.{Line}

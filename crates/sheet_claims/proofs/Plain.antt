@@ -7,7 +7,7 @@ use native.Mathlib.Nat.{mul-zero, mul-suc, mul-mod-right, div-add-mod, div-eq-of
 use native.Mathlib.Omega.{arith}
 use lib.ListN.{length, take, drop, length-append, length-drop, take-append-drop}
 use lib.Seq.{take-at, drop-at, length-take-le}
-use Rattle.sheet.specs.Digits.{Below}
+use Rattle.texts.specs.Digits.{Below}
 use Rattle.sheet.specs.Lines.{fieldCount, line, isLine, values}
 use Rattle.sheet.specs.Sheets.{plainLines, allPlain}
 use Rattle.sheet.specs.Reading.{next, numbers, plainCount}

@@ -2,11 +2,12 @@
 use Prim.Native.Nat.{ℕ}
 use mathlib.Core.Path.{_≡_, ap, _∙_, subst}
 use native.Mathlib.Omega.{arith}
-use Rattle.sheet.specs.Lines.{lines, joined}
+use Rattle.texts.specs.Fields.{lines, joined}
 use Rattle.sheet.specs.Sheets.{Saved, Sheeted, sheetLines, text}
 use Rattle.sheet.specs.Reading.{parsedBody, parsed}
 use Rattle.sheet.specs.declared.line.Line.the-variants.{State}
-use Rattle.sheet.proofs.LineLaws.{is-line-line, values-line, joined-lines}
+use Rattle.texts.proofs.FormLaws.{joined-lines}
+use Rattle.sheet.proofs.LineLaws.{is-line-line, values-line}
 use Rattle.sheet_claims.specs.RoundTrips.{ReadsBack, WritesBack}
 use Rattle.sheet_claims.proofs.LineKinds.{head-parsed, head-read}
 use Rattle.sheet_claims.proofs.Outcomes.{Outcome, no-head, no-state, whole, stopped, outcome}

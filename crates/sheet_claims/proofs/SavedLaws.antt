@@ -10,7 +10,7 @@ use lib.Seq.{length-take-le, take-at, drop-at}
 use Rattle.pages.specs.Pages.{pageBytes, badKind, badAddress, anyEntry, listing}
 use Rattle.pages.specs.declared.pages.Listing.the-variants.{Valid}
 use Rattle.pages.proofs.Laws.{ValidList, valid-list, list-valid}
-use Rattle.sheet.specs.Digits.{Below}
+use Rattle.texts.specs.Digits.{Below}
 use Rattle.sheet.specs.Sheets.{Page, Saved, WholePage, WholePages, Sheeted, pagesOf, ascended, savedOf, entriesOf, bytesOf, buffersOf}
 use Rattle.sheet_claims.proofs.Bytes.{below-take, below-drop}
 use Rattle.sheet_claims.proofs.LentPages.{lentPage, lent-entries, lent-every, lent-ascending}

@@ -9,8 +9,9 @@ use lib.Dec.{eqb}
 use Rattle.numbers.specs.Numbers.{numberAt}
 use Rattle.pages.specs.Pages.{pageOf}
 use Rattle.pages.proofs.Laws.{page-end}
-use Rattle.sheet.specs.Digits.{Below}
-use Rattle.sheet.specs.Lines.{fieldCount, line, lines}
+use Rattle.texts.specs.Digits.{Below}
+use Rattle.texts.specs.Fields.{lines}
+use Rattle.sheet.specs.Lines.{fieldCount, line}
 use Rattle.sheet.specs.Sheets.{Page, Saved, Sheeted, WholePages, wordLine, wordLines, slots, pagesWords, pageLines, plainLines, allPlain, version, sheetLines, text}
 use Rattle.sheet.specs.declared.line.Line.{Line}
 use Rattle.sheet.specs.declared.line.Line.the-variants.{Sheet, State, Page as PageLine, Word, Do}

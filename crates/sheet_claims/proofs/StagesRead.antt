@@ -7,7 +7,7 @@ use native.Mathlib.Omega.{arith}
 use lib.ListN.{length}
 use lib.Seq.{take-append-seam, drop-append-seam, take-length, drop-length}
 use borrow.Author.Tests.{le-leb}
-use Rattle.sheet.specs.Digits.{Below}
+use Rattle.texts.specs.Digits.{Below}
 use Rattle.sheet.specs.Lines.{fieldCount, line, isLine}
 use Rattle.sheet.specs.Sheets.{Page, Saved, Sheeted, Ascending, WholePages, pagesWords, pageLines, plainLines, entriesOf}
 use Rattle.pages.specs.Pages.{pageNumber}

@@ -8,7 +8,7 @@ use lib.ListN.{length, take, drop, take-append-drop}
 use lib.Dec.{leb}
 use borrow.Author.Tests.{leb-true}
 use Rattle.pages.specs.Pages.{pageOf}
-use Rattle.sheet.specs.Digits.{Below}
+use Rattle.texts.specs.Digits.{Below}
 use Rattle.sheet.specs.Lines.{fieldCount, isLine, values}
 use Rattle.sheet.specs.Sheets.{Sheeted, Ascending, slots, pagesWords, pageLines, allPlain}
 use Rattle.pages.specs.Pages.{pageNumber}

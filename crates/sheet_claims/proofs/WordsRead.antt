@@ -10,7 +10,7 @@ use borrow.Author.Tests.{eqb-true, eqb-false}
 use Rattle.numbers.specs.Numbers.{numberAt}
 use Rattle.pages.specs.Pages.{pageOf}
 use Rattle.pages.proofs.Laws.{page-and-offset, page-end}
-use Rattle.sheet.specs.Digits.{Below}
+use Rattle.texts.specs.Digits.{Below}
 use Rattle.sheet.specs.Lines.{line}
 use Rattle.sheet.specs.Sheets.{Page, Ascending, WholePages, wordLine, wordLines, slots, pagesWords, entriesOf}
 use Rattle.pages.specs.Pages.{pageNumber}

@@ -11,7 +11,7 @@ use borrow.Author.Tests.{eqb-true, not-true}
 use Rattle.numbers.specs.Numbers.{littleBytes}
 use Rattle.numbers.proofs.Laws.{little-length}
 use Rattle.pages.specs.Pages.{pageOf}
-use Rattle.sheet.specs.Digits.{Below}
+use Rattle.texts.specs.Digits.{Below}
 use Rattle.sheet.specs.Lines.{isLine, values}
 use Rattle.sheet.specs.Sheets.{WholePages, wordLine, wordLines, slots, pagesWords}
 use Rattle.sheet.specs.Reading.{value, next, isWord, slotValue, pastSlot, slotBytes, pastSlots, pagesIn, pastPages}

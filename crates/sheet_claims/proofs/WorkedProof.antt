@@ -2,8 +2,9 @@
 use mathlib.Core.Path.{refl}
 use Rattle.numbers.specs.Numbers.{numberAt}
 use Rattle.pages.specs.Pages.{pageOf, pageNumber}
-use Rattle.sheet.specs.Digits.{digit, hex, number}
-use Rattle.sheet.specs.Lines.{fields, line, joined}
+use Rattle.texts.specs.Digits.{digit, hex, number}
+use Rattle.texts.specs.Fields.{fields, joined}
+use Rattle.sheet.specs.Lines.{line}
 use Rattle.sheet.specs.Sheets.{wordLines, pagesWords, pageLines, plainLines, pagesOf, insert, ascended, savedOf, sheetLines, text}
 use Rattle.sheet_claims.specs.Worked.{bytesIn, Worked}
 

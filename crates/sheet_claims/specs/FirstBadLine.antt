@@ -5,7 +5,7 @@ use Prim.Native.Nat.{ℕ, _-_, _≤_}
 use mathlib.Core.Path.{_≡_}
 use mathlib.Core.List.{List}
 use lib.ListN.{take}
-use Rattle.sheet.specs.Lines.{lines}
+use Rattle.texts.specs.Fields.{lines}
 use Rattle.sheet.specs.Sheets.{Saved, Sheeted, text}
 use Rattle.sheet.specs.Reading.{parsed, noSheet}
 

@@ -3,7 +3,7 @@ use mathlib.Core.Path.{_≡_}
 use mathlib.Core.List.{List}
 use Prim.Native.Nat.{ℕ, _^_}
 use Rattle.replay.specs.declared.steps.Tested.the-variants.{Passed}
-use Rattle.sheet.specs.Digits.{Below}
+use Rattle.texts.specs.Digits.{Below}
 use Rattle.sheet.specs.Lent.{Buffers, tested}
 use Rattle.sheet.specs.Sheets.{Saved, Sheeted, savedOf, text}
 use Rattle.sheet.specs.Reading.{parsed, sheet}

@@ -7,12 +7,14 @@ use native.Mathlib.Omega.{arith}
 use lib.Dec.{eqb}
 use lib.ListN.{length, take, drop, length-drop, drop-of-length-le}
 use borrow.Author.Tests.{ne-eqb}
-use Rattle.sheet.specs.Lines.{lines, joined, begins, form, width, values, isLine}
+use Rattle.texts.specs.Fields.{lines, joined, begins}
+use Rattle.sheet.specs.Lines.{form, width, values, isLine}
 use Rattle.sheet.specs.Sheets.{version}
 use Rattle.sheet.specs.Reading.{noSheet, next, value, numbers, stages, finished, parsedBody, parsedBy, parsedLines, parsed}
 use Rattle.sheet.specs.declared.line.Line.{Line}
 use Rattle.sheet.specs.declared.line.Line.the-variants.{Sheet, State, Page, Do}
-use Rattle.sheet.proofs.LineLaws.{next-line, lines-step, joined-lines}
+use Rattle.texts.proofs.FormLaws.{joined-lines}
+use Rattle.sheet.proofs.LineLaws.{next-line, lines-step}
 use Rattle.sheet_read.specs.Scan.{Lead, endOf, behind, numbersIn, Found, Headed, Staged, savedAt, Shaped}
 use Rattle.sheet_read.specs.declared.stage.Stage.{Stage}
 use Rattle.sheet_read.specs.declared.scan.Shape.{Shape}

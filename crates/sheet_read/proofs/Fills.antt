@@ -11,7 +11,8 @@ use Rattle.pages.specs.Pages.{pageBytes, pageOf}
 use Rattle.numbers.specs.Numbers.{littleBytes, putIf}
 use Rattle.numbers.specs.Buffers.{laid}
 use Rattle.numbers.proofs.Laws.{lies-inside, put-inside, put-laid, little-length, laid-cons, laid-nil, laid-turn}
-use Rattle.sheet.specs.Lines.{lines, fieldCount, width, values}
+use Rattle.texts.specs.Fields.{lines}
+use Rattle.sheet.specs.Lines.{fieldCount, width, values}
 use Rattle.sheet.specs.Sheets.{slots, lineCount, bytesOf}
 use Rattle.sheet.specs.Reading.{value, numbers, slotValue, slotBytes, pagesIn}
 use Rattle.sheet.specs.declared.line.Line.{Line}

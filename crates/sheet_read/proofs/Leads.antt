@@ -7,7 +7,8 @@ use native.Mathlib.Nat.{mul-zero, mul-suc, zero-add, suc-add}
 use native.Mathlib.Omega.{arith}
 use lib.ListN.{length, take, drop, length-drop, length-append}
 use lib.Seq.{drop-drop}
-use Rattle.sheet.specs.Lines.{lines, begins, form, width, isLine, fieldCount, values}
+use Rattle.texts.specs.Fields.{lines, begins}
+use Rattle.sheet.specs.Lines.{form, width, isLine, fieldCount, values}
 use Rattle.sheet.specs.Reading.{next, numbers}
 use Rattle.sheet.specs.declared.line.Line.{Line}
 use Rattle.sheet.proofs.LineLaws.{line-room, next-line, lines-step, values-count}

@@ -7,7 +7,8 @@ use lib.ListN.{length, take, drop, length-append}
 use lib.Seq.{drop-drop}
 use Rattle.pages.specs.Pages.{pageBytes, pageOf}
 use Rattle.numbers.proofs.Laws.{little-length}
-use Rattle.sheet.specs.Lines.{lines, width, values, valuesIn}
+use Rattle.texts.specs.Fields.{lines, valuesIn}
+use Rattle.sheet.specs.Lines.{width, values}
 use Rattle.sheet.specs.Sheets.{slots, entriesOf, bytesOf}
 use Rattle.sheet.specs.Reading.{value, pastSlot, slotBytes, pastSlots, pagesIn}
 use Rattle.sheet.specs.declared.line.Line.the-variants.{Page, Word}

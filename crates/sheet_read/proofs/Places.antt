@@ -6,9 +6,10 @@ use mathlib.Core.List.{List, _∷_}
 use native.Mathlib.Omega.{arith}
 use lib.ListN.{length, take, drop, length-drop}
 use lib.Seq.{drop-drop}
-use Rattle.sheet.specs.Lines.{lines, begins, form, numeral, first, width, fieldCount, isLine}
+use Rattle.texts.specs.Fields.{lines, begins, numeral}
+use Rattle.sheet.specs.Lines.{form, first, width, fieldCount, isLine}
 use Rattle.sheet.specs.Reading.{value}
-use Rattle.sheet.specs.declared.digits.Numeral.the-variants.{Number, NoNumber}
+use Rattle.texts.specs.declared.digits.Numeral.the-variants.{Number, NoNumber}
 use Rattle.sheet.specs.declared.line.Line.{Line}
 use Rattle.sheet.proofs.LineLaws.{line-room, next-line, lines-step, line-numeral}
 

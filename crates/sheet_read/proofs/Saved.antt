@@ -16,13 +16,14 @@ use Rattle.instructions.specs.Instruction.{instructionWords}
 use Rattle.replay.specs.Run.{checkBy}
 use Rattle.replay.specs.declared.steps.Tested.{Tested}
 use Rattle.replay.specs.declared.steps.Tested.the-variants.{Passed, Failed}
-use Rattle.sheet.specs.Lines.{lines, fieldCount}
+use Rattle.texts.specs.Fields.{lines}
+use Rattle.sheet.specs.Lines.{fieldCount}
 use Rattle.sheet.specs.Lent.{Buffers, tested}
 use Rattle.sheet.specs.Sheets.{buffersOf, bytesOf}
 use Rattle.sheet.specs.Reading.{Parsed, noSheet, pagesIn, parsed}
 use Rattle.sheet.specs.declared.line.Line.{Line}
 use Rattle.sheet.specs.declared.line.Line.the-variants.{State, Page, Do}
-use Rattle.sheet.proofs.DigitLaws.{both}
+use Rattle.texts.proofs.DigitLaws.{both}
 use Rattle.sheet.proofs.TestedLaws.{passes, too-many}
 use Rattle.sheet_read.specs.Reads.{untouched, sizesOf, fits, filled, byTest, byText, reads}
 use Rattle.sheet_read.specs.Scan.{Stands, numbersIn, savedAt, Shaped, runAt, sizesAt, roomFor}

@@ -13,12 +13,13 @@ use lib.Dec.{eqb, leb}
 use borrow.Author.Tests.{not-true, eqb-true, eq-eqb, ne-eqb, le-leb, lt-leb}
 use Rattle.pages.specs.Pages.{pageOf, pageNumber}
 use Rattle.numbers.specs.Numbers.{littleBytes}
-use Rattle.sheet.specs.Lines.{lines, begins, form, width, isLine}
+use Rattle.texts.specs.Fields.{lines, begins}
+use Rattle.sheet.specs.Lines.{form, width, isLine}
 use Rattle.sheet.specs.Sheets.{slots, lineCount}
 use Rattle.sheet.specs.Reading.{next, value, plainCount, pageCount, isWord, slotValue, pastSlot, slotBytes, pastSlots, pastPages}
 use Rattle.sheet.specs.declared.line.Line.{Line}
 use Rattle.sheet.specs.declared.line.Line.the-variants.{Page, Word}
-use Rattle.sheet.proofs.DigitLaws.{both}
+use Rattle.texts.proofs.DigitLaws.{both}
 use Rattle.sheet.proofs.LineLaws.{next-line}
 use Rattle.sheet_read.specs.Scan.{Lead, slotCount, wordCount}
 use Rattle.sheet_read.proofs.Leads.{lead-one, lead-none, lead-more, lead-end, lead-past}

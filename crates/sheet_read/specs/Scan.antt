@@ -9,7 +9,8 @@ use lib.Dec.{leb}
 use Rattle.pages.specs.Pages.{pageBytes, pageOf}
 use Rattle.processor.specs.Layout.{fields}
 use Rattle.instructions.specs.Instruction.{instructionWords}
-use Rattle.sheet.specs.Lines.{lines, isLine, width}
+use Rattle.texts.specs.Fields.{lines}
+use Rattle.sheet.specs.Lines.{isLine, width}
 use Rattle.sheet.specs.Lent.{Buffers}
 use Rattle.sheet.specs.Sheets.{Saved, version, slots, lineCount, bytesOf}
 use Rattle.sheet.specs.Reading.{next, value, numbers, plainCount, pageCount, slotValue, pastSlot, pastSlots, pagesIn, sheet, noSheet, parsed}

@@ -3,7 +3,7 @@ ghost use mathlib.Core.Path.{_≡_};
 ghost use Prim.Native.Nat.{_≤_};
 ghost use lib.ListN.{length, drop};
 ghost use Rattle.pages.specs.Pages.{pageOf};
-ghost use Rattle.sheet.specs.Lines.{lines};
+ghost use Rattle.texts.specs.Fields.{lines};
 ghost use Rattle.sheet.specs.Sheets.{slots, lineCount};
 ghost use Rattle.sheet.specs.Reading.{plainCount, pageCount, slotValue};
 ghost use Rattle.sheet.specs.declared.line.Line.the-variants.{Page as PageLine, Word as WordLine};

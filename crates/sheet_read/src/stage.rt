@@ -3,12 +3,13 @@ ghost use mathlib.Core.Path.{_≡_};
 ghost use mathlib.Core.Bool.{true};
 ghost use Prim.Native.Nat.{_+_, _*_, _<_, _^_};
 ghost use lib.ListN.{take, drop};
-ghost use Rattle.sheet.specs.Lines.{begins, form, fieldCount, width};
+ghost use Rattle.texts.specs.Fields.{begins};
+ghost use Rattle.sheet.specs.Lines.{form, fieldCount, width};
 ghost use Rattle.sheet.specs.Reading.{value};
-use sheet::FIELD;
 use sheet::Line;
-use sheet::Numeral;
-use sheet::number;
+use texts::FIELD;
+use texts::Numeral;
+use texts::number;
 
 // Lines of one kind, one behind the other: where they begin, and how many they are.
 pub(crate) struct Stage {

@@ -6,7 +6,8 @@ use native.Mathlib.Omega.{arith}
 use lib.ListN.{length, length-append}
 use borrow.Author.Tests.{eq-eqb, ne-eqb}
 use Rattle.numbers.specs.Buffers.{laid}
-use Rattle.sheet.specs.Lines.{fieldCount, width, line, joined, putLine}
+use Rattle.texts.specs.Fields.{joined}
+use Rattle.sheet.specs.Lines.{fieldCount, width, line, putLine}
 use Rattle.sheet.specs.Sheets.{wordLine}
 use Rattle.sheet.specs.declared.line.Line.{Line}
 use Rattle.sheet.specs.declared.line.Line.the-variants.{Word}

@@ -11,7 +11,8 @@ use lib.Seq.{drop-drop}
 use Rattle.numbers.specs.Numbers.{numberAt}
 use Rattle.pages.specs.Pages.{pageBytes, pageOf, pageNumber}
 use Rattle.pages.specs.Order.{Nearest}
-use Rattle.sheet.specs.Lines.{fieldCount, line, joined}
+use Rattle.texts.specs.Fields.{joined}
+use Rattle.sheet.specs.Lines.{fieldCount, line}
 use Rattle.sheet.specs.Sheets.{Page, wordLine, wordLines, slots, plainLines, allPlain}
 use Rattle.sheet.specs.declared.line.Line.{Line}
 use Rattle.sheet.specs.declared.line.Line.the-variants.{Page as PageLine}

@@ -12,7 +12,8 @@ use lib.Dec.{eqb}
 use Rattle.numbers.specs.Numbers.{numberAt}
 use Rattle.pages.specs.Pages.{pageBytes, pageOf, pageNumber}
 use Rattle.processor.specs.Layout.{fields}
-use Rattle.sheet.specs.Lines.{fieldCount, line, width, joined}
+use Rattle.texts.specs.Fields.{joined}
+use Rattle.sheet.specs.Lines.{fieldCount, line, width}
 use Rattle.sheet.specs.Lent.{Buffers}
 use Rattle.sheet.specs.Sheets.{Page, lineCount, wordLine, wordLines, slots, plainLines, pagesOf, insert, ascended, version, text, savedOf}
 use Rattle.sheet.specs.declared.line.Line.{Line}

@@ -2,7 +2,8 @@
 use Prim.Native.Nat.{ℕ}
 use mathlib.Core.Path.{_≡_, refl, ap}
 use mathlib.Core.List.{List, [], _∷_, _++_, append-nil}
-use Rattle.sheet.specs.Lines.{line, joined}
+use Rattle.texts.specs.Fields.{joined}
+use Rattle.sheet.specs.Lines.{line}
 use Rattle.sheet.specs.Lent.{Buffers}
 use Rattle.sheet.specs.Sheets.{Page, pageLines, pagesWords, pageWords, allPlain, sheetLines, text, savedOf, version}
 use Rattle.sheet.specs.declared.line.Line.the-variants.{Sheet, State as StateLine, Page as PageLine, Do}

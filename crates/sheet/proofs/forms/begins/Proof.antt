@@ -1,7 +1,7 @@
 -- `begins` meets its contract. The invariant: the whole test is what was told so far, and the test from here on. Assumes nothing.
-use Rattle.sheet.proofs.FormLaws.{begins-short}
+use Rattle.texts.proofs.FormLaws.{begins-short}
 use Rattle.sheet.proofs.Turns.{begins-turn, begins-end}
-use Rattle.sheet.specs.Lines.{begins}
+use Rattle.texts.specs.Fields.{begins}
 use lib.ListN.{length, drop}
 use Prim.Native.Nat.{_-_}
 use mathlib.Core.Bool.{_&&_}

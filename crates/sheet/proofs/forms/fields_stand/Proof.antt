@@ -8,8 +8,8 @@ use borrow.Author.Tests.{not-true, not-false}
 use borrow.Author.Needs.{needs}
 use mathlib.Core.Bool.{_&&_}
 use mathlib.Core.List.{_∷_}
-use Rattle.sheet.specs.Digits.{tab}
-use Rattle.sheet.specs.Lines.{numberForm, fieldForms, begins}
+use Rattle.texts.specs.Digits.{tab}
+use Rattle.texts.specs.Fields.{numberForm, fieldForms, begins}
 use Rattle.sheet.proofs.Turns.{fields-stand-turn, fields-stand-end}
 use Rattle.sheet.proofs.forms.fields_stand.Statement.{statement}
 use Rattle.sheet.proofs.forms.fields_stand.Tie as tie

@@ -5,7 +5,8 @@ use mathlib.Core.Bool.{true}
 use native.Mathlib.Omega.{arith}
 use lib.ListN.{length, take, drop}
 use borrow.Author.Needs.{needs}
-use Rattle.sheet.specs.Lines.{lines, begins, form, fieldCount, width}
+use Rattle.texts.specs.Fields.{lines, begins}
+use Rattle.sheet.specs.Lines.{form, fieldCount, width}
 use Rattle.sheet.specs.Reading.{numbers}
 use Rattle.numbers.specs.Buffers.{laid}
 use Rattle.sheet_read.specs.Scan.{Lead, numbersIn}

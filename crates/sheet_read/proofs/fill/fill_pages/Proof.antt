@@ -5,7 +5,8 @@ use mathlib.Core.List.{List}
 use native.Mathlib.Omega.{arith}
 use lib.ListN.{length, drop}
 use Rattle.pages.specs.Pages.{pageBytes}
-use Rattle.sheet.specs.Lines.{lines, width}
+use Rattle.texts.specs.Fields.{lines}
+use Rattle.sheet.specs.Lines.{width}
 use Rattle.sheet.specs.Sheets.{bytesOf}
 use Rattle.sheet.specs.Reading.{pagesIn}
 use Rattle.numbers.specs.Buffers.{laid}

@@ -7,8 +7,9 @@ use native.Mathlib.Omega.{arith}
 use lib.ListN.{length, take, drop}
 use borrow.Author.Needs.{needs}
 use Rattle.pages.proofs.Laws.{number-room}
-use Rattle.sheet.specs.Digits.{Below}
-use Rattle.sheet.specs.Lines.{lines, begins, form, width}
+use Rattle.texts.specs.Digits.{Below}
+use Rattle.texts.specs.Fields.{lines, begins}
+use Rattle.sheet.specs.Lines.{form, width}
 use Rattle.sheet.specs.Reading.{pageCount}
 use Rattle.sheet.specs.declared.line.Line.the-variants.{Page}
 use Rattle.sheet.proofs.LineLaws.{values-below}

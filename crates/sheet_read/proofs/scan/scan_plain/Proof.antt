@@ -6,7 +6,8 @@ use mathlib.Core.List.{List}
 use native.Mathlib.Omega.{arith}
 use lib.ListN.{length, drop}
 use borrow.Author.Needs.{needs}
-use Rattle.sheet.specs.Lines.{lines, begins, form, width}
+use Rattle.texts.specs.Fields.{lines, begins}
+use Rattle.sheet.specs.Lines.{form, width}
 use Rattle.sheet.specs.Reading.{plainCount}
 use Rattle.sheet.specs.declared.line.Line.{Line}
 use Rattle.sheet_read.proofs.Places.{line-past}

@@ -5,7 +5,8 @@ use mathlib.Core.List.{List}
 use Prim.Native.Nat.{ℕ}
 use native.Mathlib.Omega.{arith}
 use borrow.Author.Tests.{not-true, not-false}
-use Rattle.sheet.specs.Lines.{begins, form}
+use Rattle.texts.specs.Fields.{begins}
+use Rattle.sheet.specs.Lines.{form}
 use Rattle.sheet.specs.declared.line.Line.the-variants.{Sheet}
 use Rattle.sheet_read.proofs.Bodies.{no-sheet, other-version, no-state, headed}
 use borrow.Author.Needs.{needs}

@@ -5,7 +5,8 @@ use mathlib.Core.List.{List}
 use native.Mathlib.Nat.{zero-add}
 use native.Mathlib.Omega.{arith}
 use lib.ListN.{length, drop}
-use Rattle.sheet.specs.Lines.{lines, width}
+use Rattle.texts.specs.Fields.{lines}
+use Rattle.sheet.specs.Lines.{width}
 use Rattle.sheet.specs.declared.line.Line.the-variants.{Page, Word}
 use Rattle.sheet_read.specs.Scan.{Lead, endOf, numbersIn, wordCount}
 use Rattle.sheet_read.proofs.Leads.{lead-front, lead-end, lead-next}

@@ -5,7 +5,8 @@ use mathlib.Core.Bool.{true}
 use mathlib.Core.List.{List}
 use native.Mathlib.Omega.{arith}
 use lib.ListN.{drop}
-use Rattle.sheet.specs.Lines.{begins, form}
+use Rattle.texts.specs.Fields.{begins}
+use Rattle.sheet.specs.Lines.{form}
 use Rattle.sheet.specs.declared.line.Line.the-variants.{Word}
 use Rattle.sheet_read.proofs.Stages.{slot-here, slot-there, slot-none}
 use borrow.Author.Needs.{needs}

@@ -6,7 +6,8 @@ use native.Mathlib.Omega.{arith}
 use lib.ListN.{length, drop}
 use borrow.Author.Needs.{needs}
 use Rattle.pages.proofs.Laws.{page-end}
-use Rattle.sheet.specs.Lines.{lines, width}
+use Rattle.texts.specs.Fields.{lines}
+use Rattle.sheet.specs.Lines.{width}
 use Rattle.sheet.specs.Sheets.{slots}
 use Rattle.sheet.specs.declared.line.Line.the-variants.{Word}
 use Rattle.sheet_read.specs.Scan.{slotCount}

@@ -5,7 +5,7 @@ use native.Mathlib.Omega.{arith}
 use lib.ListN.{length, take, drop}
 use Rattle.sheet.specs.Lines.{width}
 use Rattle.sheet.specs.Reading.{value}
-use Rattle.sheet.specs.declared.digits.Numeral.the-variants.{Number}
+use Rattle.texts.specs.declared.digits.Numeral.the-variants.{Number}
 use Rattle.sheet_read.proofs.Places.{number-in, numeral-at, number-same, number-there}
 use borrow.Author.Needs.{needs}
 use Rattle.sheet_read.proofs.stage.field.Statement.{statement}

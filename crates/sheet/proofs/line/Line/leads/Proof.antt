@@ -4,8 +4,9 @@ use mathlib.Core.List.{List}
 use Prim.Native.Nat.{ℕ, _-_, _≤_}
 use lib.ListN.{length, getD, drop}
 use lib.Dec.{eqb}
-use Rattle.sheet.specs.Digits.{lineFeed}
-use Rattle.sheet.specs.Lines.{fieldCount, fieldForms, begins, first, width}
+use Rattle.texts.specs.Digits.{lineFeed}
+use Rattle.texts.specs.Fields.{fieldForms, begins}
+use Rattle.sheet.specs.Lines.{fieldCount, first, width}
 use mathlib.Core.Bool.{and-false}
 use borrow.Author.Tests.{not-true, not-false}
 use Rattle.sheet.proofs.LineLaws.{line-short}

@@ -1,16 +1,16 @@
 -- `put_fields` meets its contract. The invariant: the fields still to be laid, from here on, give the whole. Assumes nothing.
-use Rattle.sheet.proofs.Turns.{fields-end, fields-turn}
+use Rattle.texts.proofs.Turns.{fields-end, fields-turn}
 use Rattle.numbers.proofs.Laws.{laid-start}
-use Rattle.sheet.proofs.LineLaws.{fields-length}
-use Rattle.sheet.specs.Lines.{fields}
+use Rattle.texts.proofs.Fields.{fields-length}
+use Rattle.texts.specs.Fields.{fields}
 use Rattle.numbers.specs.Buffers.{laid}
 use lib.ListN.{length, drop}
 use Prim.Native.Nat.{_+_, _-_, _*_, _≤_}
 use mathlib.Core.Path.{_≡_, refl, sym, _∙_}
 use borrow.Author.Needs.{needs}
 use native.Mathlib.Omega.{arith}
-use Rattle.sheet.proofs.put.put_fields.Statement.{statement}
-use Rattle.sheet.proofs.put.put_fields.Tie as tie
+use Rattle.texts.proofs.put.put_fields.Statement.{statement}
+use Rattle.texts.proofs.put.put_fields.Tie as tie
 
 abbrev Inv-loop : tie.InvT-loop
 Inv-loop values text₀ at i₀ text i = (laid text₀ at (fields values) ≡ laid text (at + 18 * i) (fields (drop i values))) × (length text ≡ length text₀) × (i ≤ length values)

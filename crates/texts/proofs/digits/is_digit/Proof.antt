@@ -3,10 +3,10 @@ use mathlib.Core.Path.{_≡_, sym, _∙_}
 use mathlib.Core.Bool.{_&&_}
 use mathlib.Core.Logic.{⊎-elim}
 use lib.Dec.{leb}
-use Rattle.sheet.specs.Digits.{isDigit}
+use Rattle.texts.specs.Digits.{isDigit}
 use borrow.Author.Tests.{le-leb, lt-leb}
-use Rattle.sheet.proofs.digits.is_digit.Statement.{statement}
-use Rattle.sheet.proofs.digits.is_digit.Tie as tie
+use Rattle.texts.proofs.digits.is_digit.Statement.{statement}
+use Rattle.texts.proofs.digits.is_digit.Tie as tie
 
 -- 0 to 9
 low : (c : tie.Joined1) → c .if1 .if2 ≡ (leb 48 (c .before .args .c) && leb (c .before .args .c) 57)

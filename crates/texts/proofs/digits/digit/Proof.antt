@@ -1,9 +1,9 @@
 -- `digit` meets its contract. Assumes nothing.
-use Rattle.sheet.specs.Digits.{digit}
+use Rattle.texts.specs.Digits.{digit}
 use borrow.Author.Tests.{lt-ltb, le-ltb}
 use borrow.Author.Needs.{needs}
-use Rattle.sheet.proofs.digits.digit.Statement.{statement}
-use Rattle.sheet.proofs.digits.digit.Tie as tie
+use Rattle.texts.proofs.digits.digit.Statement.{statement}
+use Rattle.texts.proofs.digits.digit.Tie as tie
 
 add-result : tie.Need-add-result
 add-result c = search needs

@@ -8,10 +8,9 @@ use lib.ListN.{length, take, drop}
 use lib.Seq.{drop-at}
 use lib.Dec.{eqb}
 use borrow.Author.Tests.{eqb-true, eq-eqb, ne-eqb, not-true}
-use Rattle.sheet.specs.Digits.{lineFeed, isDigit}
-use Rattle.sheet.specs.Lines.{joined, inFront, lines, anyDigit, fitsMark, begins}
-use Rattle.sheet.specs.Reading.{next}
-use Rattle.sheet.proofs.DigitLaws.{both, and-both}
+use Rattle.texts.specs.Digits.{lineFeed, isDigit}
+use Rattle.texts.specs.Fields.{joined, inFront, lines, anyDigit, fitsMark, begins}
+use Rattle.texts.proofs.DigitLaws.{both, and-both}
 
 -- ---- forms
 
@@ -128,12 +127,3 @@ joined-lines (c ∷ cs) = go (eqb c lineFeed) refl (joined-lines cs)
     go : (b : Bool) → eqb c lineFeed ≡ b → joined (lines cs) ≡ cs → joined (lines (c ∷ cs)) ≡ c ∷ cs
     go true e h = rw (e, h)
     go false e h = rw (e, joined-before, h)
-
--- a form with which the first line begins
-pub begins-next : (marks u : List ℕ) → begins marks (next (lines u)) ≡ true → begins marks u ≡ true
-unfolding joined
-begins-next marks u h = ap (begins marks) (sym (joined-lines u)) ∙ go (lines u) h
-  where
-    go : (ls : List (List ℕ)) → begins marks (next ls) ≡ true → begins marks (joined ls) ≡ true
-    go [] k = k
-    go (l ∷ ls) k = begins-more marks l (joined ls) k

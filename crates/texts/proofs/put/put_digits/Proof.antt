@@ -1,13 +1,13 @@
 -- `put_digits` meets its contract. The invariant: the digits that are left, laid before those that are in place, give the whole. Assumes nothing.
-use Rattle.sheet.proofs.Turns.{hex-end, hex-turn}
+use Rattle.texts.proofs.Turns.{hex-end, hex-turn}
 use lib.ListN.{length-set, length}
-use Rattle.sheet.specs.Digits.{hex}
+use Rattle.texts.specs.Digits.{hex}
 use Rattle.numbers.specs.Buffers.{laid}
 use Prim.Native.Nat.{ℕ, _+_, _-_, _≤_, _<_}
 use mathlib.Core.Path.{_≡_, refl, sym, _∙_}
 use native.Mathlib.Omega.{arith}
-use Rattle.sheet.proofs.put.put_digits.Statement.{statement}
-use Rattle.sheet.proofs.put.put_digits.Tie as tie
+use Rattle.texts.proofs.put.put_digits.Statement.{statement}
+use Rattle.texts.proofs.put.put_digits.Tie as tie
 
 abbrev Inv-loop : tie.InvT-loop
 Inv-loop v text₀ at left₀ v₀ text left v' = (laid text₀ at (hex 16 v) ≡ laid text at (hex left v')) × (length text ≡ length text₀) × (left ≤ 16)

@@ -10,8 +10,8 @@ use native.Mathlib.Omega.{arith}
 use lib.ListN.{length, length-append, replicate}
 use lib.Dec.{ltb, leb}
 use borrow.Author.Tests.{lt-ltb, le-ltb, le-leb, lt-leb, ltb-true, ltb-false, leb-true}
-use Rattle.sheet.specs.Digits.{digits, digit, hex, number, isDigit, digitValue, valueFrom, valueOf}
-use Rattle.sheet.specs.Lines.{anyDigit, begins}
+use Rattle.texts.specs.Digits.{digits, digit, hex, number, isDigit, digitValue, valueFrom, valueOf}
+use Rattle.texts.specs.Fields.{anyDigit, begins}
 
 -- ---- tests
 

@@ -5,10 +5,10 @@ use mathlib.Core.List.{_∷_, []}
 use native.Mathlib.Omega.{arith}
 use lib.ListN.{length}
 use Rattle.numbers.proofs.Laws.{laid-if, laid-turn}
-use Rattle.sheet.specs.Digits.{number, tab, letterX, hex}
+use Rattle.texts.specs.Digits.{number, tab, letterX, hex}
 use borrow.Author.Needs.{needs}
-use Rattle.sheet.proofs.put.put_field.Statement.{statement}
-use Rattle.sheet.proofs.put.put_field.Tie as tie
+use Rattle.texts.proofs.put.put_field.Statement.{statement}
+use Rattle.texts.proofs.put.put_field.Tie as tie
 
 slice-aggregate-copy-bytes : tie.Need-slice-aggregate-copy-bytes
 slice-aggregate-copy-bytes c = search needs

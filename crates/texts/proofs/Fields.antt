@@ -8,10 +8,10 @@ use native.Mathlib.Numerals.{add-one}
 use native.Mathlib.Omega.{arith}
 use lib.ListN.{length, take, drop, getD, replicate, length-append, length-take, length-replicate, replicate-append-replicate, take-append-drop}
 use lib.Seq.{drop-drop, take-at, drop-at, length-take-le}
-use Rattle.sheet.specs.Digits.{tab, lineFeed, letterX, digits, digit, hex, number, valueOf}
-use Rattle.sheet.specs.Lines.{fields, anyDigit, numberForm, fieldForms, begins, valuesIn}
-use Rattle.sheet.proofs.DigitLaws.{digit-is, hex-length, number-length, value-below, value-hex, hex-value}
-use Rattle.sheet.proofs.FormLaws.{begins-room, begins-take, begins-parts, begins-both, begins-letters, lacks}
+use Rattle.texts.specs.Digits.{tab, lineFeed, letterX, digits, digit, hex, number, valueOf}
+use Rattle.texts.specs.Fields.{fields, lineOf, anyDigit, numberForm, fieldForms, begins, valuesIn}
+use Rattle.texts.proofs.DigitLaws.{digit-is, hex-length, number-length, value-below, value-hex, hex-value}
+use Rattle.texts.proofs.FormLaws.{begins-room, begins-take, begins-parts, begins-both, begins-letters, lacks}
 
 -- ---- lengths
 
@@ -29,6 +29,10 @@ pub values-length : (n : ℕ) (cs : List ℕ) → length (valuesIn n cs) ≡ n
 unfolding valuesIn
 values-length zero cs = refl
 values-length (suc n) cs = ap suc (values-length n (drop 18 cs))
+
+-- of any name
+pub line-long : (named vs : List ℕ) → length (lineOf named vs) ≡ length named + 18 * length vs + 1
+line-long named vs = rw (length-append named (fields vs ++ (lineFeed ∷ [])), length-append (fields vs) (lineFeed ∷ []), fields-length vs) (omega arith)
 
 -- ---- the form
 

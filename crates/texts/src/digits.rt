@@ -2,8 +2,8 @@
 ghost use mathlib.Core.Path.{_≡_};
 ghost use Prim.Native.Nat.{_<_};
 ghost use lib.ListN.{drop};
-ghost use Rattle.sheet.specs.Digits.{digit as digitOf, isDigit, digitValue as digitValueOf};
-ghost use Rattle.sheet.specs.Lines.{numeral};
+ghost use Rattle.texts.specs.Digits.{digit as digitOf, isDigit, digitValue as digitValueOf};
+ghost use Rattle.texts.specs.Fields.{numeral};
 use numbers::has_room;
 
 // How many digits every number has.
@@ -17,7 +17,7 @@ pub enum Numeral {
 }
 
 // Whether a character is a digit, 0 to 9 or a to f.
-pub(crate) fn is_digit(c: u8) -> bool
+pub fn is_digit(c: u8) -> bool
     ensures { λ r. ⌜ r ≡ isDigit c ⌝ }
 {
     (b'0' <= c && c <= b'9') || (b'a' <= c && c <= b'f')

@@ -8,13 +8,13 @@ use lib.ListN.{length}
 use borrow.Author.Tests.{not-true, not-false}
 use Rattle.numbers.specs.Numbers.{inside}
 use Rattle.numbers.proofs.Laws.{ends-inside, laid-if, laid-unless}
-use Rattle.sheet.specs.Digits.{lineFeed}
-use Rattle.sheet.specs.Lines.{lineOf}
-use Rattle.sheet.proofs.LineLaws.{fields-length, line-long}
-use Rattle.sheet.proofs.Turns.{line-out, line-laid}
+use Rattle.texts.specs.Digits.{lineFeed}
+use Rattle.texts.specs.Fields.{lineOf}
+use Rattle.texts.proofs.Fields.{fields-length, line-long}
+use Rattle.texts.proofs.Turns.{line-out, line-laid}
 use borrow.Author.Needs.{needs}
-use Rattle.sheet.proofs.put.put_line.Statement.{statement}
-use Rattle.sheet.proofs.put.put_line.Tie as tie
+use Rattle.texts.proofs.put.put_line.Statement.{statement}
+use Rattle.texts.proofs.put.put_line.Tie as tie
 
 returns : tie.Need-returns
 returns c =

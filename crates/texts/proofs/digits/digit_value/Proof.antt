@@ -1,11 +1,11 @@
 -- `digit_value` meets its contract. Assumes nothing.
 use mathlib.Core.Logic.{⊎-elim}
 use native.Mathlib.Omega.{arith}
-use Rattle.sheet.specs.Digits.{digitValue}
+use Rattle.texts.specs.Digits.{digitValue}
 use borrow.Author.Tests.{lt-ltb, le-ltb}
 use borrow.Author.Needs.{needs}
-use Rattle.sheet.proofs.digits.digit_value.Statement.{statement}
-use Rattle.sheet.proofs.digits.digit_value.Tie as tie
+use Rattle.texts.proofs.digits.digit_value.Statement.{statement}
+use Rattle.texts.proofs.digits.digit_value.Tie as tie
 
 add-moved : tie.Need-add-moved
 add-moved c = search needs

@@ -5,13 +5,15 @@ ghost use Prim.Native.Nat.{_+_, _≤_};
 ghost use lib.ListN.{length};
 ghost use Rattle.numbers.specs.Numbers.{inside};
 ghost use Rattle.numbers.specs.Buffers.{laid, laidIf};
-ghost use Rattle.sheet.specs.Digits.{hex, number, tab};
-ghost use Rattle.sheet.specs.Lines.{fields as fieldsOf, lineOf};
+ghost use Rattle.texts.specs.Digits.{hex, number, tab};
+ghost use Rattle.texts.specs.Fields.{fields as fieldsOf, lineOf};
 use crate::digits::DIGITS;
 use crate::digits::digit;
-use crate::forms::FIELD;
 use numbers::copy_bytes;
 use numbers::has_room;
+
+// How many bytes a number has with the tab before it.
+pub const FIELD: usize = 18;
 
 // Writes the digits of a number, lowest first, so that each is a remainder.
 fn put_digits(v: u64, text: &mut [u8], at: usize)

@@ -4,14 +4,14 @@ use Prim.Native.Nat.{_+_, _-_, _^_, _<_, _≤_}
 use mathlib.Core.Path.{_≡_, sym, _∙_}
 use native.Mathlib.Omega.{arith}
 use lib.ListN.{length, drop}
-use Rattle.sheet.specs.Lines.{numeral}
+use Rattle.texts.specs.Fields.{numeral}
 use borrow.Author.Tests.{not-true, not-false}
 use Rattle.numbers.proofs.Laws.{ends-inside}
-use Rattle.sheet.proofs.DigitLaws.{digit-below}
-use Rattle.sheet.proofs.Turns.{digitsFrom, no-room, digits-start, digits-turn, digits-end, value-room, value-grows}
+use Rattle.texts.proofs.DigitLaws.{digit-below}
+use Rattle.texts.proofs.Turns.{digitsFrom, no-room, digits-start, digits-turn, digits-end, value-room, value-grows}
 use borrow.Author.Needs.{needs}
-use Rattle.sheet.proofs.digits.number.Statement.{statement}
-use Rattle.sheet.proofs.digits.number.Tie as tie
+use Rattle.texts.proofs.digits.number.Statement.{statement}
+use Rattle.texts.proofs.digits.number.Tie as tie
 
 abbrev Inv-loop : tie.InvT-loop
 Inv-loop text at good₀ v₀ i₀ good v i = (numeral (drop at text) ≡ digitsFrom good (16 - i) v (drop (at + (i + 1)) text)) × (v < 16 ^ i) × (i ≤ 16)
