@@ -17,6 +17,7 @@ pub use one_page::Located;
 pub use one_page::locate;
 pub use one_page::store_at;
 pub use pages::Listing;
+pub use pages::Next;
 pub use pages::PAGE_BYTES;
 pub use pages::PAGE_LIMIT;
 pub use pages::Spot;

@@ -15,7 +15,8 @@
 --     valid-list, list-valid               a list is valid (`listing`) exactly where it breaks none of the four rules (`ValidList`)
 --     neither                              neither of two tests passes
 --     too-many-entries                     refusal 1 comes before all else
+--     next-is                              the next page (`nextPage`) is the nearest (`Nearest`); where there is none, all are below `least`
 -- Assumes nothing.
 
 pub use Rattle.pages.proofs.Moves.{plus-below, minus-below, plus-aligned, minus-aligned, plus-back, plus-twice, minus-back, moves-add}
-pub use Rattle.pages.proofs.Lists.{neither, page-and-offset, page-end, number-room, EachFails, none-passes, each-fails, Apart, once-apart, apart-once, ValidList, valid-list, list-valid, too-many-entries}
+pub use Rattle.pages.proofs.Lists.{neither, page-and-offset, page-end, number-room, EachFails, none-passes, each-fails, Apart, once-apart, apart-once, ValidList, valid-list, list-valid, too-many-entries, Nearest, NextIs, next-is}

@@ -2,7 +2,6 @@
 pub mod Laws
 pub mod Sums
 pub mod Steps
-mod Nearer
 mod KindTests
 mod Lists
 mod Moves

@@ -5,6 +5,7 @@ mod pages;
 
 pub use address::Width;
 pub use address::canonical;
+pub use order::Next;
 pub use order::next_page;
 pub use order::page_number;
 pub use order::page_of;

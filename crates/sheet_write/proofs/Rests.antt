@@ -2,7 +2,6 @@
 use Prim.Native.Nat.{ℕ, suc, _+_, _-_, _*_, _/_, _<_, _≤_}
 use mathlib.Core.Path.{_≡_, refl, sym, _∙_, ap, ap₂}
 use mathlib.Core.List.{List, [], _∷_, _++_}
-use mathlib.Core.Logic.{⊎-elim}
 use native.Mathlib.Omega.{arith}
 use native.Mathlib.Nat.{div-eq-sub-div, div-eq-of-lt}
 use native.Mathlib.Numerals.{add-one}
@@ -10,7 +9,7 @@ use lib.ListN.{length, getD, take, drop, length-drop}
 use lib.Seq.{drop-drop}
 use Rattle.numbers.specs.Numbers.{numberAt}
 use Rattle.pages.specs.Pages.{pageBytes, pageOf, pageNumber}
-use Rattle.pages.specs.Order.{Nearest}
+use Rattle.pages.proofs.Laws.{Nearest}
 use Rattle.texts.specs.Fields.{joined}
 use Rattle.sheet.specs.Lines.{fieldCount, line}
 use Rattle.sheet.specs.Sheets.{Page, wordLine, wordLines, slots, plainLines, allPlain}
@@ -21,7 +20,7 @@ use Rattle.sheet_write.specs.Order.{from, Lent}
 use Rattle.sheet_write.specs.Laying.{linesOf, allLines}
 use Rattle.sheet_write.specs.declared.lay.Pass.{Pass}
 use Rattle.sheet_write.specs.declared.lay.Pass.the-variants.{Entries, Values}
-use Rattle.sheet_write.proofs.Ascending.{le-or-lt, pageIn, inOrder, from-zero, none-left, next-left}
+use Rattle.sheet_write.proofs.Ascending.{pageIn, inOrder, from-zero, none-left, next-left}
 use Rattle.sheet_write.proofs.Turns.{one-less, none-less, later, part}
 use Rattle.sheet_write.proofs.Lays.{Begins, joined-append, joined-one}
 
@@ -96,33 +95,31 @@ pub pages-cons : (pass : Pass) (p : Page) (ps : List Page) → Begins (joined (a
 unfolding allLines
 pages-cons pass p ps = record { split = joined-append (linesOf pass p) (allLines pass ps) }
 
-module _ (entries bytes : List ℕ) (least place : ℕ) (nearest : Nearest entries least (length entries) place) where
-  module _ (h : place < length entries) (lent : Lent entries bytes) where
-    next-page : from least (inOrder entries bytes) ≡ pageIn entries bytes place ∷ from (pageNumber (getD entries place 0) + 1) (inOrder entries bytes)
-    next-page =
-        next-left entries bytes least place h (nearest .own h)
-        (λ i inside other at.
-        let behind = nearest .first i inside at .1 in
-        let apart : pageNumber (getD entries i 0) ≡ pageNumber (getD entries place 0) → ⊥ = λ e. other (lent .apart i place inside h e) in
-        omega arith)
+module _ (entries bytes : List ℕ) (least place : ℕ) (nearest : Nearest entries least (length entries) place) (lent : Lent entries bytes) where
+  next-page : from least (inOrder entries bytes) ≡ pageIn entries bytes place ∷ from (pageNumber (getD entries place 0) + 1) (inOrder entries bytes)
+  next-page =
+      next-left entries bytes least place (nearest .inside) (nearest .own)
+      (λ i inside other at.
+      let behind = nearest .first i inside at in
+      let apart : pageNumber (getD entries i 0) ≡ pageNumber (getD entries place 0) → ⊥ = λ e. other (lent .apart i place inside (nearest .inside) e) in
+      omega arith)
 
-    module _ (page-number : ℕ) (page-number-is : page-number ≡ pageNumber (getD entries place 0)) where
-      -- the page as the code lends it
-      pub pages-turn : (pass : Pass)
-          → Begins (pagesFrom pass entries bytes least)
-          (joined (linesOf pass (record { entry = getD entries place 0; bytes = take (pageBytes * place + pageBytes - pageBytes * place) (drop (pageBytes * place) bytes) })))
-          (pagesFrom pass entries bytes (page-number + 1))
-      pages-turn pass =
-          rw (page-number-is, part (pageBytes * place) pageBytes bytes, next-page)
-          (pages-cons pass (pageIn entries bytes place) (from (pageNumber (getD entries place 0) + 1) (inOrder entries bytes)))
+  module _ (page-number : ℕ) (page-number-is : page-number ≡ pageNumber (getD entries place 0)) where
+    -- the page as the code lends it
+    pub pages-turn : (pass : Pass)
+        → Begins (pagesFrom pass entries bytes least)
+        (joined (linesOf pass (record { entry = getD entries place 0; bytes = take (pageBytes * place + pageBytes - pageBytes * place) (drop (pageBytes * place) bytes) })))
+        (pagesFrom pass entries bytes (page-number + 1))
+    pages-turn pass =
+        rw (page-number-is, part (pageBytes * place) pageBytes bytes, next-page)
+        (pages-cons pass (pageIn entries bytes place) (from (pageNumber (getD entries place 0) + 1) (inOrder entries bytes)))
 
-      pub pages-less : length (from (page-number + 1) (inOrder entries bytes)) < length (from least (inOrder entries bytes))
-      pages-less = rw page-number-is (let one = ap length next-page in omega arith)
+    pub pages-less : length (from (page-number + 1) (inOrder entries bytes)) < length (from least (inOrder entries bytes))
+    pages-less = rw page-number-is (let one = ap length next-page in omega arith)
 
-  pub pages-end : length entries ≤ place → (pass : Pass) → pagesFrom pass entries bytes least ≡ []
-  unfolding allLines joined
-  pages-end h pass =
-      rw (none-left entries bytes least (λ i inside. ⊎-elim (λ at. absurd (let found = nearest .first i inside at .0 in omega arith)) (λ below. below) (le-or-lt least (pageNumber (getD entries i 0)))))
+pub pages-end : (entries bytes : List ℕ) (least : ℕ) → ((i : ℕ) → i < length entries → pageNumber (getD entries i 0) < least) → (pass : Pass) → pagesFrom pass entries bytes least ≡ []
+unfolding allLines joined
+pages-end entries bytes least below pass = rw (none-left entries bytes least below)
 
 pub pages-start : (pass : Pass) (entries bytes : List ℕ) → joined (allLines pass (inOrder entries bytes)) ≡ pagesFrom pass entries bytes 0
 pages-start pass entries bytes = ap (λ (ps : List Page). joined (allLines pass ps)) (sym (from-zero (inOrder entries bytes)))
