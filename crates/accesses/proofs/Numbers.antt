@@ -4,12 +4,12 @@ use mathlib.Core.Path.{_≡_, sym, _∙_, ap, ap₂}
 use mathlib.Core.List.{List}
 use native.Mathlib.Nat.{pow-suc, pow-le-pow-right}
 use native.Mathlib.Omega.{arith}
-use Rattle.pages.specs.Address.{wrapped, plus}
+use Rattle.addresses.specs.Address.{wrapped, plus}
 use Rattle.pages.specs.Pages.{Lookup}
 use Rattle.accesses.specs.Access.{byteIn, number}
-use Rattle.pages.specs.declared.address.Width.{Width}
+use Rattle.addresses.specs.declared.address.Width.{Width}
 use Rattle.accesses.proofs.Steps.{number-suc}
-use Rattle.pages.proofs.Sums.{plus-one, plus-none}
+use Rattle.addresses.proofs.Sums.{plus-one, plus-none}
 
 -- `value` holds the bytes from the `left`-th to the last of n
 pub record Built (look : Lookup) (bytes : List ℕ) (w : Width) (first n value left : ℕ) : Type 0 where

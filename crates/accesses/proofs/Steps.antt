@@ -4,9 +4,9 @@ use mathlib.Core.Path.{_≡_, refl, _∙_, ap}
 use mathlib.Core.Bool.{true, false, not, true≢false, false≢true}
 use mathlib.Core.List.{List}
 use native.Mathlib.Omega.{arith}
-use Rattle.pages.specs.Address.{plus}
+use Rattle.addresses.specs.Address.{plus}
+use Rattle.addresses.specs.declared.address.Width.{Width}
 use Rattle.pages.specs.Pages.{Lookup}
-use Rattle.pages.specs.declared.address.Width.{Width}
 use Rattle.accesses.specs.Access.{isReady, andThen, scan, byteIn, number, putByte, write}
 use Rattle.accesses.specs.declared.reach.Reach.{Reach}
 use Rattle.accesses.specs.declared.reach.Reach.the-variants.{Ready, Blocked}

@@ -5,9 +5,9 @@ use mathlib.Core.List.{List}
 use lib.ListN.{length, getD, set}
 use lib.Dec.{eqb}
 use Rattle.numbers.specs.Numbers.{byteCount}
-use Rattle.pages.specs.Address.{wrapped, plus, canonical}
+use Rattle.addresses.specs.Address.{wrapped, plus, canonical}
+use Rattle.addresses.specs.declared.address.Width.{Width}
 use Rattle.pages.specs.Pages.{Lookup, userShadow, supervisorShadow, ordinary, spot}
-use Rattle.pages.specs.declared.address.Width.{Width}
 use Rattle.pages.specs.declared.pages.Spot.{Spot}
 use Rattle.pages.specs.declared.pages.Spot.the-variants.{Unlisted, At}
 use Rattle.accesses.specs.declared.access.Kind.{Kind}

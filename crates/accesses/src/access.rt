@@ -5,8 +5,8 @@ ghost use Rattle.accesses.specs.Access.{kindNumber, canonicalBytes, prob
 use crate::reach::Asked;
 use crate::reach::Reach;
 use crate::reach::test_bytes;
+use addresses::Width;
 use numbers::Size;
-use pages::Width;
 
 // The three kinds of page.
 pub enum Kind {

@@ -1,16 +1,16 @@
 // Loads, byte by byte: the number that 4 or 8 bytes hold, low byte first.
 ghost use mathlib.Core.Path.{_≡_};
 ghost use lib.ListN.{length};
-ghost use Rattle.pages.specs.Address.{wrapped};
+ghost use Rattle.addresses.specs.Address.{wrapped};
 ghost use Rattle.pages.specs.Pages.{spot};
 ghost use Rattle.numbers.specs.Numbers.{byteCount};
 ghost use Rattle.accesses.specs.Access.{lookupOf, byteIn, number as numberOf, load};
 use crate::access::Access;
 use crate::reach::Failure;
 use crate::reach::Reach;
+use addresses::Width;
 use numbers::Size;
 use pages::Spot;
-use pages::Width;
 use pages::find;
 
 // What a load gives.

@@ -1,12 +1,12 @@
 // Whether bytes can be reached, one by one.
 ghost use mathlib.Core.Path.{_≡_};
-ghost use Rattle.pages.specs.Address.{wrapped};
+ghost use Rattle.addresses.specs.Address.{wrapped};
 ghost use Rattle.pages.specs.Pages.{spot};
 ghost use Rattle.accesses.specs.Access.{isReady, scan};
 ghost use Rattle.accesses.specs.Search.{byteTest};
+use addresses::Width;
+use addresses::canonical;
 use pages::Spot;
-use pages::Width;
-use pages::canonical;
 use pages::find;
 
 // Why an access cannot be done.

@@ -1,14 +1,14 @@
 // Stores, byte by byte: 4 or 8 bytes of a number, low byte first.
 ghost use mathlib.Core.Path.{_≡_};
 ghost use lib.ListN.{length, set};
-ghost use Rattle.pages.specs.Address.{wrapped};
+ghost use Rattle.addresses.specs.Address.{wrapped};
 ghost use Rattle.pages.specs.Pages.{spot};
 ghost use Rattle.accesses.specs.Access.{lookupOf, putByte, write as writeOf, probe, store};
 use crate::access::Access;
 use crate::reach::Reach;
+use addresses::Width;
 use pages::PAGE_BYTES;
 use pages::Spot;
-use pages::Width;
 use pages::find;
 
 // Sets one byte of a page; nothing where the offset is past its end.

@@ -7,11 +7,11 @@ use native.Mathlib.Omega.{arith}
 use lib.Dec.{eqb, ltb}
 use borrow.Author.Tests.{ltb-true}
 use Rattle.numbers.specs.Numbers.{byteCount}
-use Rattle.pages.specs.Address.{wrapped}
+use Rattle.addresses.specs.Address.{wrapped}
+use Rattle.addresses.specs.declared.address.Width.{Width}
+use Rattle.addresses.specs.declared.address.Width.the-variants.{Bits32, Bits64}
+use Rattle.addresses.proofs.Laws.{plus-back, plus-twice, minus-back, moves-add}
 use Rattle.pages.specs.Pages.{Lookup}
-use Rattle.pages.specs.declared.address.Width.{Width}
-use Rattle.pages.specs.declared.address.Width.the-variants.{Bits32, Bits64}
-use Rattle.pages.proofs.Laws.{plus-back, plus-twice, minus-back, moves-add}
 use Rattle.processor.specs.State.{widthOf, enabled, plus, minus}
 use Rattle.answers.specs.declared.answer.Answer.the-variants.{Completed}
 use Rattle.processor.specs.declared.state.State.{State}

@@ -7,12 +7,12 @@ use native.Mathlib.Omega.{arith}
 use lib.Dec.{eqb, ltb}
 use borrow.Author.Tests.{ltb-true, leb-true, eqb-true, eqb-false, not-true, eq-eqb}
 use Rattle.numbers.specs.Numbers.{byteCount}
+use Rattle.addresses.specs.declared.address.Width.the-variants.{Bits32}
 use Rattle.pages.specs.Pages.{Lookup}
-use Rattle.pages.specs.declared.address.Width.the-variants.{Bits32}
 use Rattle.numbers.specs.declared.size.Size.{Size}
 use Rattle.numbers.specs.declared.size.Size.the-variants.{Four, Eight}
 use Rattle.processor.specs.Layout.{withCet, withIp, withSp, withSsp, withFlags}
-use Rattle.pages.proofs.Laws.{plus-below, minus-below, plus-aligned, minus-aligned}
+use Rattle.addresses.proofs.Laws.{plus-below, minus-below, plus-aligned, minus-aligned}
 use Rattle.processor.specs.State.{isLong, widthOf, cetFits, enabled, usable, inRange, plus, minus, next}
 use Rattle.processor.specs.declared.state.State.{State}
 use Rattle.saveprevssp.specs.Saveprevssp.{carry}

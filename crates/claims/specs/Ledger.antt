@@ -4,7 +4,7 @@ use mathlib.Core.Path.{_≡_}
 use mathlib.Core.Bool.{cond}
 use lib.Dec.{eqb}
 use Rattle.numbers.specs.Numbers.{byteCount}
-use Rattle.pages.specs.Address.{wrapped}
+use Rattle.addresses.specs.Address.{wrapped}
 use Rattle.processor.specs.State.{enabled, widthOf}
 use Rattle.processor.specs.declared.state.State.{State}
 use Rattle.saveprevssp.specs.Saveprevssp.{carry}

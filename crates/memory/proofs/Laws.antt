@@ -1,5 +1,5 @@
 -- The laws of the memory for the crates above, which open none of its definitions, but to compute worked rows. Those of addresses and
--- page lists alone stand in the crate below (crates/pages/proofs/Laws.antt).
+-- page lists alone stand in the crates below (proofs/Laws.antt of crates/addresses and crates/pages).
 --
 -- By what trying an access finds:
 --     load-done, load-failed, loaded-value, loaded-failure   what a load gives, and back

@@ -9,15 +9,15 @@ use native.Mathlib.Omega.{arith}
 use lib.ListN.{length, set}
 use lib.Dec.{ltb, leb}
 use borrow.Author.Tests.{leb-true, leb-false, le-leb, le-ltb, lt-ltb}
-use Rattle.pages.specs.Address.{plus, canonical}
+use Rattle.addresses.specs.Address.{plus, canonical}
 use Rattle.pages.specs.Pages.{Lookup, pageBytes, pageOf, kindOf, onPage, inPage, spotFrom, spot}
 use Rattle.numbers.specs.Numbers.{byteCount}
 use Rattle.accesses.specs.Access.{andThen, scan, canonicalByte, listedByte, lookupOf, kindNumber, start, canonicalBytes, listedBytes, probe, byteIn, number, write, value, load, written, store}
 use Rattle.numbers.specs.Numbers.{numberAt, putAt}
 use Rattle.memory.specs.OnePage.{onePage, further, PageHolds, locatedIf, within, located, firstReach, firstLocated, quickly, onLentPage, storeAt}
 use Rattle.memory.specs.Promises.{FirstByteDecides, OnePageExactly}
-use Rattle.pages.specs.declared.address.Width.{Width}
-use Rattle.pages.specs.declared.address.Width.the-variants.{Bits32, Bits64}
+use Rattle.addresses.specs.declared.address.Width.{Width}
+use Rattle.addresses.specs.declared.address.Width.the-variants.{Bits32, Bits64}
 use Rattle.pages.specs.declared.pages.Spot.{Spot}
 use Rattle.pages.specs.declared.pages.Spot.the-variants.{Unlisted, At}
 use Rattle.numbers.specs.declared.size.Size.{Size}
@@ -32,7 +32,7 @@ use Rattle.accesses.specs.declared.load.Loaded.the-variants.{Value}
 use Rattle.numbers.proofs.Laws.{at-least-four, at-most-eight}
 use Rattle.accesses.proofs.Laws.{load-done, store-done, behind, spot-page, scan-turn}
 use Rattle.memory.proofs.Cells.{reached}
-use Rattle.pages.proofs.Sums.{Wrapped, wrapped-plus, wrapped-start, one-on}
+use Rattle.addresses.proofs.Sums.{Wrapped, wrapped-plus, wrapped-start, one-on}
 
 -- ---- one page, one entry
 

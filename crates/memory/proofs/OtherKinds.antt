@@ -5,9 +5,9 @@ use mathlib.Core.Bool.{Bool, true, false, cond, true≢false}
 use mathlib.Core.List.{List}
 use native.Mathlib.Omega.{arith}
 use lib.ListN.{length}
-use Rattle.pages.specs.Address.{plus}
+use Rattle.addresses.specs.Address.{plus}
+use Rattle.addresses.specs.declared.address.Width.{Width}
 use Rattle.pages.specs.Pages.{Lookup}
-use Rattle.pages.specs.declared.address.Width.{Width}
 use Rattle.pages.specs.declared.pages.Spot.{Spot}
 use Rattle.pages.specs.declared.pages.Spot.the-variants.{Unlisted, At}
 use Rattle.numbers.specs.Numbers.{byteCount}
@@ -17,7 +17,7 @@ use Rattle.accesses.specs.declared.access.Access.{Access}
 use Rattle.accesses.specs.declared.reach.Failure.the-variants.{WrongKind}
 use Rattle.accesses.specs.declared.reach.Reach.{Reach}
 use Rattle.accesses.specs.declared.reach.Reach.the-variants.{Ready, Blocked}
-use Rattle.pages.proofs.Sums.{Wrapped, wrapped-plus, wrapped-start, one-on}
+use Rattle.addresses.proofs.Sums.{Wrapped, wrapped-plus, wrapped-start, one-on}
 use Rattle.memory.proofs.Cells.{reached}
 use Rattle.memory.proofs.Stored.{written-elsewhere}
 use Rattle.memory.proofs.TwoMemories.{ready-turn, probe-ready}

@@ -5,20 +5,20 @@ use mathlib.Core.List.{List}
 use native.Mathlib.Omega.{arith}
 use lib.ListN.{length}
 use lib.Pow.{mod-pow-add}
-use Rattle.pages.specs.Address.{plus}
+use Rattle.addresses.specs.Address.{plus}
 use Rattle.pages.specs.Pages.{Lookup}
 use Rattle.numbers.specs.Numbers.{byteCount}
 use Rattle.accesses.specs.Access.{scan, listedByte, byteIn, number, putByte, write, kindNumber, start, listedBytes, probe, value, written}
 use Rattle.memory.specs.Extends.{cell, Places}
-use Rattle.pages.specs.declared.address.Width.{Width}
-use Rattle.pages.specs.declared.address.Width.the-variants.{Bits32, Bits64}
+use Rattle.addresses.specs.declared.address.Width.{Width}
+use Rattle.addresses.specs.declared.address.Width.the-variants.{Bits32, Bits64}
 use Rattle.pages.specs.declared.pages.Spot.{Spot}
 use Rattle.pages.specs.declared.pages.Spot.the-variants.{Unlisted, At}
 use Rattle.accesses.specs.declared.access.Access.{Access}
 use Rattle.accesses.specs.declared.reach.Reach.the-variants.{Ready}
 use Rattle.numbers.proofs.Laws.{at-most-eight}
 use Rattle.memory.proofs.Cells.{reached, cellByte, cell-byte, put-here, put-there, places-put}
-use Rattle.pages.proofs.Sums.{Wrapped, wrapped-plus, wrapped-start, one-on}
+use Rattle.addresses.proofs.Sums.{Wrapped, wrapped-plus, wrapped-start, one-on}
 use Rattle.memory.proofs.TwoMemories.{ready-turn, probe-ready}
 
 -- ---- the addresses of an access

@@ -7,13 +7,13 @@ use native.Mathlib.Decide.{ℕ-discrete}
 use native.Mathlib.Omega.{arith}
 use lib.ListN.{length, getD}
 use lib.Dec.{eqb}
-use Rattle.pages.specs.Address.{plus}
+use Rattle.addresses.specs.Address.{plus}
 use Rattle.pages.specs.Pages.{Lookup}
 use Rattle.numbers.specs.Numbers.{byteCount}
 use Rattle.accesses.specs.Access.{andThen, scan, onKind, listedByte, kindNumber, start, canonicalBytes, listedBytes, probe}
 use Rattle.accesses.specs.Access.{byteIn, number, putByte, write, value, loadedIf, load, written, storedIf, store}
 use Rattle.memory.specs.Extends.{cellIn, present, cell, Extends, Places}
-use Rattle.pages.specs.declared.address.Width.{Width}
+use Rattle.addresses.specs.declared.address.Width.{Width}
 use Rattle.pages.specs.declared.pages.Spot.{Spot}
 use Rattle.pages.specs.declared.pages.Spot.the-variants.{Unlisted, At}
 use Rattle.accesses.specs.declared.access.Access.{Access}

@@ -5,7 +5,7 @@ use mathlib.Core.Bool.{Bool, true, cond, _&&_}
 use mathlib.Core.List.{List}
 use lib.ListN.{length}
 use lib.Dec.{ltb, leb}
-use Rattle.pages.specs.Address.{canonical}
+use Rattle.addresses.specs.Address.{canonical}
 use Rattle.pages.specs.Pages.{Lookup, pageBytes}
 use Rattle.numbers.specs.Numbers.{byteCount, putAt}
 use Rattle.accesses.specs.Access.{listedByte, kindNumber, start, probe}

@@ -5,7 +5,7 @@ use mathlib.Core.Path.{_≡_}
 use mathlib.Core.Bool.{true}
 use mathlib.Core.List.{List}
 use Rattle.numbers.specs.Numbers.{byteCount}
-use Rattle.pages.specs.Address.{plus}
+use Rattle.addresses.specs.Address.{plus}
 use Rattle.pages.specs.Pages.{pageOf, spot}
 use Rattle.accesses.specs.Access.{start}
 use Rattle.accesses.specs.declared.access.Access.{Access}

@@ -10,11 +10,11 @@ ghost use Rattle.memory.specs.OnePage.{onePage, allowed, locatedIf, with
 use accesses::Access;
 use accesses::Failure;
 use accesses::Reach;
+use addresses::canonical;
 use numbers::Held;
 use numbers::Size;
 use pages::PAGE_BYTES;
 use pages::Spot;
-use pages::canonical;
 use pages::find;
 
 // What trying an access finds, and where it lies.

@@ -1,19 +1,14 @@
--- Where a page lies, what a page list has that breaks no rule, and which page of a list comes next: by the places of the entries. Assumes nothing.
+-- Where a page lies, and what a page list has that breaks no rule, by the places of the entries. Assumes nothing.
 use Prim.Native.Nat.{ℕ, zero, suc, _+_, _*_, _/_, _%_, _^_, _<_, _≤_}
 use mathlib.Core.Path.{_≡_, refl, sym, ap}
-use mathlib.Core.Bool.{Bool, true, false, not, cond, _||_, _&&_, true≢false}
+use mathlib.Core.Bool.{Bool, true, false, not, cond, _||_, true≢false}
 use mathlib.Core.List.{List, [], _∷_}
-use native.Mathlib.Numerals.{add-one}
 use native.Mathlib.Omega.{arith}
 use lib.ListN.{length, getD}
-use lib.Dec.{eqb, ltb, leb}
-use borrow.Author.Count.{below-more}
-use borrow.Author.Tests.{lt-ltb, le-ltb, eq-eqb, ne-eqb, eqb-true, eqb-false, ltb-true, ltb-false, leb-true, leb-false, not-false}
-use Rattle.pages.specs.Pages.{pageBytes, pageLimit, pageOf, pageNumber, wrongLength, badKind, badAddress, onPage, anyEntry, repeated, listing}
-use Rattle.pages.specs.Order.{sooner, nextAmong, nextPage}
+use lib.Dec.{eqb, ltb}
+use borrow.Author.Tests.{lt-ltb, le-ltb, eq-eqb, ne-eqb, eqb-true, eqb-false, ltb-false, not-false}
+use Rattle.pages.specs.Pages.{pageBytes, pageLimit, pageOf, wrongLength, badKind, badAddress, onPage, anyEntry, repeated, listing}
 use Rattle.pages.specs.declared.pages.Listing.the-variants.{Valid, BadLength, BadKind, BadAddress, Repeated}
-use Rattle.pages.specs.declared.order.Next.{Next}
-use Rattle.pages.specs.declared.order.Next.the-variants.{At, None}
 
 -- ---- a page
 
@@ -26,11 +21,6 @@ page-and-offset n = omega arith
 pub page-end : (n : ℕ) → n < 2 ^ 64 → pageOf n + pageBytes ≤ 2 ^ 64
 unfolding pageOf
 page-end n h = omega arith
-
--- and its number has room for one more
-pub number-room : (n : ℕ) → n < 2 ^ 64 → pageNumber n + 1 < 2 ^ 64
-unfolding pageNumber
-number-room n h = omega arith
 
 -- ---- a test of every entry
 
@@ -129,35 +119,3 @@ list-valid entries lent h = rw (le-ltb pageLimit (length entries) (h .few), eq-e
 pub too-many-entries : (entries : List ℕ) (lent : ℕ) → pageLimit < length entries → listing entries lent ≡ BadLength
 unfolding listing wrongLength
 too-many-entries entries lent more = rw (lt-ltb pageLimit (length entries) more)
-
--- ---- the next page
-
--- of the first n entries the one at this place is not below `least`, and none that is not has a lower number
-pub record Nearest (entries : List ℕ) (least n place : ℕ) : Type 0 where
-  pub inside : place < n
-  pub own : least ≤ pageNumber (getD entries place 0)
-  pub first : (i : ℕ) → i < n → least ≤ pageNumber (getD entries i 0) → pageNumber (getD entries place 0) ≤ pageNumber (getD entries i 0)
-
--- the next page among them is the nearest; where there is none, all are below `least`
-abbrev pub NextIs : List ℕ → ℕ → ℕ → Next → Type 0
-NextIs entries least n (At place) = Nearest entries least n place
-NextIs entries least n None = (i : ℕ) → i < n → pageNumber (getD entries i 0) < least
-
-module _ (entries : List ℕ) (least : ℕ) where
-  one-more : (i : ℕ) (next : Next) (from near : Bool) → leb least (pageNumber (getD entries i 0)) ≡ from → sooner entries (pageNumber (getD entries i 0)) next ≡ near
-      → NextIs entries least i next → NextIs entries least (i + 1) (cond (from && near) (At i) next)
-  one-more i None true true e f was = record { inside = omega arith; own = leb-true _ _ e; first = below-more _ _ (λ k h at. absurd (omega (arith, was k h))) (λ _. omega arith) }
-  one-more i None true false e f was = absurd (true≢false f)
-  one-more i None false near e f was = below-more _ _ was (leb-false _ _ e)
-  one-more i (At place) true true e f was = record { inside = omega arith; own = leb-true _ _ e; first = below-more _ _ (λ k h at. omega (arith, ltb-true, was .first k h at)) (λ _. omega arith) }
-  one-more i (At place) true false e f was = record { inside = omega arith; own = was .own; first = below-more _ _ (was .first) (λ _. omega (arith, ltb-false)) }
-  one-more i (At place) false near e f was = record { inside = omega arith; own = was .own; first = below-more _ _ (was .first) (λ at. absurd (omega (arith, leb-false))) }
-
-  next-among : (n : ℕ) → NextIs entries least n (nextAmong entries least n)
-  unfolding nextAmong
-  next-among zero = λ i h. absurd (omega arith)
-  next-among (suc i) = rw (← add-one i) (one-more i (nextAmong entries least i) _ _ refl refl (next-among i))
-
-  pub next-is : (next : Next) → next ≡ nextPage entries least → NextIs entries least (length entries) next
-  unfolding nextPage
-  next-is next e = rw e (next-among (length entries))

@@ -1,4 +1,4 @@
--- What a reader of the contracts must believe, to be read beside docs/RULES.md: "Pages", "Refusals" 1 to 4. In this order: Address, Pages, Order.
+-- What a reader of the contracts must believe, to be read beside docs/RULES.md: "Pages", "Refusals" 1 to 4, after addresses/specs.
 -- Search serves the contracts of private functions.
 --
 -- How to read it. A line with `:` gives a definition's type, the lines below it say what it is, case by case. `ℕ` are the whole
@@ -12,7 +12,5 @@
 -- `Unit {0}` always holds.
 --
 -- In a contract `λ r. ⌜ .. ⌝` says what holds of the result r; `now (bytes .entry)` and `now (bytes .exit)` are the bytes before and after.
-pub mod Address
 pub mod Pages
-pub mod Order
 pub mod Search

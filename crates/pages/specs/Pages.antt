@@ -4,7 +4,7 @@ use mathlib.Core.Bool.{Bool, false, not, cond, _||_}
 use mathlib.Core.List.{List, [], _∷_}
 use lib.ListN.{length}
 use lib.Dec.{eqb, ltb}
-use Rattle.pages.specs.Address.{canonical}
+use Rattle.addresses.specs.Address.{canonical}
 use Rattle.pages.specs.declared.pages.Listing.{Listing}
 use Rattle.pages.specs.declared.pages.Listing.the-variants.{Valid, BadLength, BadKind, BadAddress, Repeated}
 use Rattle.pages.specs.declared.pages.Spot.{Spot}
@@ -27,10 +27,6 @@ pageLimit = 16
 -- the page address of an entry, and the address of the page that a byte lies on
 unfoldable pub pageOf : ℕ → ℕ
 pageOf n = n / pageBytes * pageBytes
-
--- the number of that page, counted from address 0: pages are ordered by it, whatever their kinds
-unfoldable pub pageNumber : ℕ → ℕ
-pageNumber n = n / pageBytes
 
 unfoldable pub kindOf : ℕ → ℕ
 kindOf entry = entry % pageBytes

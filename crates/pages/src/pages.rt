@@ -2,9 +2,9 @@
 //
 // An entry is a page's address with the page's kind in its low 12 bits. Entry i owns the lent bytes from 4,096 * i on.
 ghost use mathlib.Core.Path.{_≡_};
-ghost use lib.ListN.{length};
 ghost use Rattle.pages.specs.Pages.{pageOf, kindOf, anyEntry, wrongLength, repeated as repeatedOf, listing, refusalNumber, inPage, spot};
 ghost use Rattle.pages.specs.Search.{meets as meetsOf};
+use addresses::canonical;
 
 // A page's size in bytes.
 pub const PAGE_BYTES: usize = 4096;
@@ -41,7 +41,7 @@ enum Sought {
 }
 
 // The address of the page that a byte lies on; of an entry, its page address.
-fn page_of(n: u64) -> u64
+pub fn page_of(n: u64) -> u64
     ensures { λ r. ⌜ r ≡ pageOf n ⌝ }
 {
     n / (PAGE_BYTES as u64) * (PAGE_BYTES as u64)
@@ -61,7 +61,7 @@ fn meets(sought: Sought, entry: u64) -> bool
             let kind = kind_of(entry);
             if kind == 0 { true } else { kind > 3 }
         }
-        Sought::BadAddress => !crate::address::canonical(page_of(entry)),
+        Sought::BadAddress => !canonical(page_of(entry)),
         Sought::OnPage(page) => page_of(entry) == page,
     }
 }

@@ -2,9 +2,9 @@
 use Prim.Native.Nat.{ℕ, _/_, _%_, _^_}
 use mathlib.Core.Bool.{Bool, true, not, cond, _&&_, _||_}
 use lib.Dec.{eqb, ltb, leb}
-use Rattle.pages.specs.Address.{plus as plusAt, minus as minusAt}
-use Rattle.pages.specs.declared.address.Width.{Width}
-use Rattle.pages.specs.declared.address.Width.the-variants.{Bits32, Bits64}
+use Rattle.addresses.specs.Address.{plus as plusAt, minus as minusAt}
+use Rattle.addresses.specs.declared.address.Width.{Width}
+use Rattle.addresses.specs.declared.address.Width.the-variants.{Bits32, Bits64}
 use Rattle.processor.specs.declared.state.State.{State}
 
 -- ---- the mode

@@ -2,9 +2,9 @@
 use Prim.Native.Nat.{ℕ, _+_, _%_, _^_}
 use mathlib.Core.Bool.{Bool, true, _&&_, _||_}
 use lib.Dec.{eqb, ltb}
-use Rattle.pages.specs.Address.{minus as minusAt}
+use Rattle.addresses.specs.Address.{minus as minusAt}
 use Rattle.numbers.specs.declared.size.Size.the-variants.{Eight}
-use Rattle.pages.specs.declared.address.Width.the-variants.{Bits64}
+use Rattle.addresses.specs.declared.address.Width.the-variants.{Bits64}
 use Rattle.answers.specs.Answer.{ud, gp, cpRstorssp}
 use Rattle.processor.specs.State.{isLong, longBit, usable, plus, next}
 use Rattle.processor.specs.Layout.{withIp, withSsp, withFlags}

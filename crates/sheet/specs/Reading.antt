@@ -6,7 +6,8 @@ use mathlib.Core.Bool.{Bool, not, cond, _&&_}
 use mathlib.Core.List.{List, [], _∷_, _++_}
 use lib.ListN.{length, getD, take, drop}
 use lib.Dec.{eqb, leb}
-use Rattle.pages.specs.Pages.{pageOf, pageNumber}
+use Rattle.pages.specs.Pages.{pageOf}
+use Rattle.order.specs.Order.{pageNumber}
 use Rattle.numbers.specs.Numbers.{littleBytes}
 use Rattle.texts.specs.Fields.{lines}
 use Rattle.sheet.specs.Lines.{isLine, values}

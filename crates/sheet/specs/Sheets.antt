@@ -6,7 +6,8 @@ use mathlib.Core.Bool.{cond}
 use mathlib.Core.List.{List, [], _∷_, _++_}
 use lib.ListN.{length, take, drop}
 use lib.Dec.{eqb, leb}
-use Rattle.pages.specs.Pages.{pageBytes, pageOf, pageNumber}
+use Rattle.pages.specs.Pages.{pageBytes, pageOf}
+use Rattle.order.specs.Order.{pageNumber}
 use Rattle.numbers.specs.Numbers.{numberAt}
 use Rattle.texts.specs.Digits.{Below}
 use Rattle.texts.specs.Fields.{joined}

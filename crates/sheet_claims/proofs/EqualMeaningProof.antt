@@ -6,7 +6,7 @@ use mathlib.Core.Path.{_≡_, refl, sym, ap, ap₂}
 use native.Mathlib.Omega.{arith}
 use Rattle.memory.specs.Extends.{HoldsPages}
 use Rattle.sheet.specs.Sheets.{Page, Ascending, pagesOf, ascended, savedOf, text}
-use Rattle.pages.specs.Pages.{pageNumber}
+use Rattle.order.specs.Order.{pageNumber}
 use Rattle.sheet_claims.specs.EqualMeaning.{EqualText, EqualWrites}
 use Rattle.replay.specs.Run.{checkBy}
 use Rattle.sheet_write.specs.Writes.{writes}

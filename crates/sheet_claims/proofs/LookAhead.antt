@@ -9,7 +9,7 @@ use lib.Dec.{leb}
 use Rattle.pages.specs.Pages.{pageOf}
 use Rattle.sheet.specs.Lines.{isLine}
 use Rattle.sheet.specs.Sheets.{slots}
-use Rattle.pages.specs.Pages.{pageNumber}
+use Rattle.order.specs.Order.{pageNumber}
 use Rattle.sheet.specs.Reading.{value, next, isWord, pageCount, numbers, plainCount, pastPlain, pastSlot, pastSlots, pastPages, stages}
 use Rattle.sheet.specs.declared.line.Line.{Line}
 use Rattle.sheet.specs.declared.line.Line.the-variants.{Page as PageLine, Do}

@@ -12,7 +12,7 @@ use borrow.Author.Tests.{le-leb, leb-true, leb-false}
 use Rattle.pages.specs.Pages.{anyEntry, repeated}
 use Rattle.pages.proofs.Laws.{none-passes, each-fails, Apart, once-apart, apart-once}
 use Rattle.sheet.specs.Sheets.{Page, Ascending, insert, ascended, entriesOf}
-use Rattle.pages.specs.Pages.{pageNumber}
+use Rattle.order.specs.Order.{pageNumber}
 
 -- ---- every page of a list
 

@@ -10,7 +10,7 @@ use borrow.Author.Tests.{le-leb}
 use Rattle.texts.specs.Digits.{Below}
 use Rattle.sheet.specs.Lines.{fieldCount, line, isLine}
 use Rattle.sheet.specs.Sheets.{Page, Saved, Sheeted, Ascending, WholePages, pagesWords, pageLines, plainLines, entriesOf}
-use Rattle.pages.specs.Pages.{pageNumber}
+use Rattle.order.specs.Order.{pageNumber}
 use Rattle.sheet.specs.Reading.{next, isWord, pageCount, numbers, plainCount, stages}
 use Rattle.sheet.specs.declared.line.Line.{Line}
 use Rattle.sheet.specs.declared.line.Line.the-variants.{Page as PageLine, Word, Do}

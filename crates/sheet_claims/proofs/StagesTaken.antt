@@ -11,7 +11,7 @@ use Rattle.pages.specs.Pages.{pageOf}
 use Rattle.texts.specs.Digits.{Below}
 use Rattle.sheet.specs.Lines.{fieldCount, isLine, values}
 use Rattle.sheet.specs.Sheets.{Sheeted, Ascending, slots, pagesWords, pageLines, allPlain}
-use Rattle.pages.specs.Pages.{pageNumber}
+use Rattle.order.specs.Order.{pageNumber}
 use Rattle.sheet.specs.Reading.{value, pageCount, numbers, pastSlots, pagesIn, pastPages, plainCount, stages}
 use Rattle.sheet.specs.declared.line.Line.{Line}
 use Rattle.sheet.specs.declared.line.Line.the-variants.{State, Page as PageLine, Do}

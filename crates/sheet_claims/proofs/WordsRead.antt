@@ -13,7 +13,7 @@ use Rattle.pages.proofs.Laws.{page-and-offset, page-end}
 use Rattle.texts.specs.Digits.{Below}
 use Rattle.sheet.specs.Lines.{line}
 use Rattle.sheet.specs.Sheets.{Page, Ascending, WholePages, wordLine, wordLines, slots, pagesWords, entriesOf}
-use Rattle.pages.specs.Pages.{pageNumber}
+use Rattle.order.specs.Order.{pageNumber}
 use Rattle.sheet.specs.Reading.{next, isWord, slotValue, pastSlot, slotBytes, pastSlots, pagesIn, pastPages}
 use Rattle.sheet.specs.declared.line.Line.the-variants.{Word}
 use Rattle.sheet_claims.proofs.Bytes.{below-drop, little-below, bytes-of-little}

@@ -1,7 +1,8 @@
 -- The worked sheets, computed. Assumes nothing.
 use mathlib.Core.Path.{refl}
 use Rattle.numbers.specs.Numbers.{numberAt}
-use Rattle.pages.specs.Pages.{pageOf, pageNumber}
+use Rattle.pages.specs.Pages.{pageOf}
+use Rattle.order.specs.Order.{pageNumber}
 use Rattle.texts.specs.Digits.{digit, hex, number}
 use Rattle.texts.specs.Fields.{fields, joined}
 use Rattle.sheet.specs.Lines.{line}

@@ -11,7 +11,8 @@ use lib.ListN.{length, take, drop}
 use lib.Seq.{drop-drop}
 use lib.Dec.{eqb, leb}
 use borrow.Author.Tests.{not-true, eqb-true, eq-eqb, ne-eqb, le-leb, lt-leb}
-use Rattle.pages.specs.Pages.{pageOf, pageNumber}
+use Rattle.pages.specs.Pages.{pageOf}
+use Rattle.order.specs.Order.{pageNumber}
 use Rattle.numbers.specs.Numbers.{littleBytes}
 use Rattle.texts.specs.Fields.{lines, begins}
 use Rattle.sheet.specs.Lines.{form, width, isLine}

@@ -11,8 +11,8 @@ ghost use Rattle.sheet_read.specs.Scan.{Stands, numbersIn, slotCount, wo
 use crate::stage::Stage;
 use crate::stage::field;
 use crate::stage::past;
-use memory::page_number;
 use memory::page_of;
+use order::page_number;
 use sheet::Line;
 use sheet::SLOTS;
 use sheet::VERSION;

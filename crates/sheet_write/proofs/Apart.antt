@@ -2,8 +2,8 @@
 use Prim.Native.Nat.{ℕ}
 use mathlib.Core.List.{List}
 use lib.ListN.{length}
-use Rattle.pages.specs.Pages.{pageNumber}
 use Rattle.pages.proofs.Laws.{once-apart, ValidList}
+use Rattle.order.specs.Order.{pageNumber}
 use Rattle.sheet_write.specs.Order.{Lent}
 
 pub lent : (pages bytes : List ℕ) → ValidList pages (length bytes) → Lent pages bytes

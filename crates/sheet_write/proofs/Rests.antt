@@ -8,8 +8,9 @@ use native.Mathlib.Numerals.{add-one}
 use lib.ListN.{length, getD, take, drop, length-drop}
 use lib.Seq.{drop-drop}
 use Rattle.numbers.specs.Numbers.{numberAt}
-use Rattle.pages.specs.Pages.{pageBytes, pageOf, pageNumber}
-use Rattle.pages.proofs.Laws.{Nearest}
+use Rattle.pages.specs.Pages.{pageBytes, pageOf}
+use Rattle.order.specs.Order.{pageNumber}
+use Rattle.order.proofs.Laws.{Nearest}
 use Rattle.texts.specs.Fields.{joined}
 use Rattle.sheet.specs.Lines.{fieldCount, line}
 use Rattle.sheet.specs.Sheets.{Page, wordLine, wordLines, slots, plainLines, allPlain}

@@ -10,7 +10,8 @@ use lib.ListN.{length, take, drop, length-append, length-drop}
 use lib.Seq.{length-take-le, drop-drop, take-nil, getD-take}
 use lib.Dec.{eqb}
 use Rattle.numbers.specs.Numbers.{numberAt}
-use Rattle.pages.specs.Pages.{pageBytes, pageOf, pageNumber}
+use Rattle.pages.specs.Pages.{pageBytes, pageOf}
+use Rattle.order.specs.Order.{pageNumber}
 use Rattle.processor.specs.Layout.{fields}
 use Rattle.texts.specs.Fields.{joined}
 use Rattle.sheet.specs.Lines.{fieldCount, line, width}

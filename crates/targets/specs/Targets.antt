@@ -3,7 +3,7 @@ use Prim.Native.Nat.{ℕ, _+_, _-_, _%_, _^_}
 use mathlib.Core.Bool.{Bool, not, cond, _&&_}
 use lib.Dec.{eqb, ltb, leb}
 use lib.IntN.{ℤ, pos, negsuc}
-use Rattle.pages.specs.Address.{canonical}
+use Rattle.addresses.specs.Address.{canonical}
 use Rattle.numbers.specs.declared.size.Size.{Size}
 use Rattle.numbers.specs.declared.size.Size.the-variants.{Four, Eight}
 use Rattle.processor.specs.State.{isLong, plus, minus, next}

@@ -1,7 +1,7 @@
 -- The worked cases, by computation: every definition on the way is opened, and both sides come to the same lists. Assumes nothing.
 use mathlib.Core.Path.{refl}
 use Rattle.accesses.specs.Access.{scan, number, write, lookupOf, canonicalBytes, listedBytes, probe, value, written}
-use Rattle.pages.specs.Address.{wrapped, plus, minus, canonical}
+use Rattle.addresses.specs.Address.{wrapped, plus, minus, canonical}
 use Rattle.pages.specs.Pages.{pageOf, kindOf, wrongLength, badKind, badAddress, onPage, anyEntry, repeated, listing, inPage, spotFrom, spot}
 use Rattle.processor.specs.Prog.{_>>=_, interp, operate}
 use Rattle.processor.specs.Layout.{stateOf}

@@ -4,7 +4,7 @@ use mathlib.Core.Path.{_≡_, sym, _∙_, ap}
 use mathlib.Core.Bool.{not}
 use native.Mathlib.Omega.{arith}
 use borrow.Author.Needs.{needs}
-use Rattle.pages.specs.Address.{wrapped, plus}
+use Rattle.addresses.specs.Address.{wrapped, plus}
 use Rattle.pages.specs.Pages.{spot}
 use Rattle.accesses.specs.Access.{scan, andThen}
 use Rattle.accesses.specs.Search.{byteTest}

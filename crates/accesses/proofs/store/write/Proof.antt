@@ -3,7 +3,7 @@ use mathlib.Core.Path.{_≡_, refl, sym, _∙_}
 use native.Mathlib.Omega.{arith}
 use lib.ListN.{length}
 use borrow.Author.Needs.{needs}
-use Rattle.pages.specs.Address.{wrapped}
+use Rattle.addresses.specs.Address.{wrapped}
 use Rattle.pages.specs.Pages.{spot}
 use Rattle.accesses.specs.Access.{write}
 use Rattle.accesses.proofs.Steps.{write-turn, write-end}

@@ -6,7 +6,7 @@ use mathlib.Core.List.{List}
 use native.Mathlib.Omega.{arith}
 use lib.ListN.{length, take, drop}
 use borrow.Author.Needs.{needs}
-use Rattle.pages.proofs.Laws.{number-room}
+use Rattle.order.proofs.Laws.{number-room}
 use Rattle.texts.specs.Digits.{Below}
 use Rattle.texts.specs.Fields.{lines, begins}
 use Rattle.sheet.specs.Lines.{form, width}

@@ -1,6 +1,6 @@
 // Addresses: sums that wrap at the width, and which addresses are canonical.
 ghost use mathlib.Core.Path.{_≡_};
-ghost use Rattle.pages.specs.Address.{wrapped, plus as plusOf, minus as minusOf, canonical as canonicalOf};
+ghost use Rattle.addresses.specs.Address.{wrapped, plus as plusOf, minus as minusOf, canonical as canonicalOf};
 
 // How wide the addresses of an access are: modulo 2^32 or modulo 2^64.
 pub enum Width {

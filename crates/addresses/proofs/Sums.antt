@@ -2,9 +2,9 @@
 use Prim.Native.Nat.{ℕ, suc, _+_, _-_, _%_, _^_, _<_, _≤_}
 use mathlib.Core.Path.{_≡_, sym, _∙_, ap}
 use native.Mathlib.Omega.{arith}
-use Rattle.pages.specs.Address.{modulus, wrapped, plus, minus}
-use Rattle.pages.specs.declared.address.Width.{Width}
-use Rattle.pages.specs.declared.address.Width.the-variants.{Bits32, Bits64}
+use Rattle.addresses.specs.Address.{modulus, wrapped, plus, minus}
+use Rattle.addresses.specs.declared.address.Width.{Width}
+use Rattle.addresses.specs.declared.address.Width.the-variants.{Bits32, Bits64}
 
 -- a sum modulo 2^64, cut to the width, is the sum at the width
 pub plus-wraps : (w : Width) (a b : ℕ) → wrapped w ((a + b) % 2 ^ 64) ≡ plus w a b

@@ -1,9 +1,9 @@
 -- `Width::wrap` meets its contract: a remainder at 32 bits, and at 64 bits the number itself, which fits. Assumes nothing.
 use native.Mathlib.Omega.{arith}
 use borrow.Author.Needs.{needs}
-use Rattle.pages.specs.Address.{wrapped}
-use Rattle.pages.proofs.address.Width.wrap.Statement.{statement}
-use Rattle.pages.proofs.address.Width.wrap.Tie as tie
+use Rattle.addresses.specs.Address.{wrapped}
+use Rattle.addresses.proofs.address.Width.wrap.Statement.{statement}
+use Rattle.addresses.proofs.address.Width.wrap.Tie as tie
 
 enum-told : tie.Need-enum-told
 enum-told c = search needs

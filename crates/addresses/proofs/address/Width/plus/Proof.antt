@@ -1,10 +1,10 @@
 -- `Width::plus` meets its contract: a sum that wraps at 2^64, cut to the width. Assumes nothing.
 use mathlib.Core.Path.{_∙_, ap}
 use borrow.Author.Needs.{needs}
-use Rattle.pages.specs.Address.{wrapped}
-use Rattle.pages.proofs.Sums.{plus-wraps}
-use Rattle.pages.proofs.address.Width.plus.Statement.{statement}
-use Rattle.pages.proofs.address.Width.plus.Tie as tie
+use Rattle.addresses.specs.Address.{wrapped}
+use Rattle.addresses.proofs.Sums.{plus-wraps}
+use Rattle.addresses.proofs.address.Width.plus.Statement.{statement}
+use Rattle.addresses.proofs.address.Width.plus.Tie as tie
 
 wrapping-add-u64-requires : tie.Need-wrapping-add-u64-requires
 wrapping-add-u64-requires c κs = search needs

@@ -3,9 +3,9 @@ use Prim.Native.Nat.{ℕ, _+_, _%_, _<_}
 use mathlib.Core.Path.{_≡_, sym, _∙_, ap}
 use native.Mathlib.Nat.{mod-add-mod}
 use native.Mathlib.Omega.{arith}
-use Rattle.pages.specs.Address.{modulus, wrapped, plus, minus}
-use Rattle.pages.specs.declared.address.Width.{Width}
-use Rattle.pages.specs.declared.address.Width.the-variants.{Bits32, Bits64}
+use Rattle.addresses.specs.Address.{modulus, wrapped, plus, minus}
+use Rattle.addresses.specs.declared.address.Width.{Width}
+use Rattle.addresses.specs.declared.address.Width.the-variants.{Bits32, Bits64}
 
 -- ---- within the width
 

@@ -2,8 +2,8 @@
 use Prim.Native.Nat.{ℕ, _+_, _-_, _/_, _%_, _^_}
 use mathlib.Core.Bool.{Bool, _||_}
 use lib.Dec.{eqb}
-use Rattle.pages.specs.declared.address.Width.{Width}
-use Rattle.pages.specs.declared.address.Width.the-variants.{Bits32, Bits64}
+use Rattle.addresses.specs.declared.address.Width.{Width}
+use Rattle.addresses.specs.declared.address.Width.the-variants.{Bits32, Bits64}
 
 -- addresses and their sums wrap at 2^32 or at 2^64
 abbrev pub modulus : Width → ℕ

@@ -1,9 +1,9 @@
 -- `Width::minus` meets its contract: a difference that wraps at 2^64, cut to the width. Assumes nothing.
 use mathlib.Core.Path.{_∙_}
 use borrow.Author.Needs.{needs}
-use Rattle.pages.proofs.Sums.{minus-wraps}
-use Rattle.pages.proofs.address.Width.minus.Statement.{statement}
-use Rattle.pages.proofs.address.Width.minus.Tie as tie
+use Rattle.addresses.proofs.Sums.{minus-wraps}
+use Rattle.addresses.proofs.address.Width.minus.Statement.{statement}
+use Rattle.addresses.proofs.address.Width.minus.Tie as tie
 
 wrapping-sub-u64-requires : tie.Need-wrapping-sub-u64-requires
 wrapping-sub-u64-requires c κs = search needs

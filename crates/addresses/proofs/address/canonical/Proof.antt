@@ -1,8 +1,8 @@
 -- `canonical` meets its contract: the two tests are those of the definition. Assumes nothing.
 use borrow.Author.Tests.{eq-eqb, ne-eqb}
-use Rattle.pages.specs.Address.{canonical}
-use Rattle.pages.proofs.address.canonical.Statement.{statement}
-use Rattle.pages.proofs.address.canonical.Tie as tie
+use Rattle.addresses.specs.Address.{canonical}
+use Rattle.addresses.proofs.address.canonical.Statement.{statement}
+use Rattle.addresses.proofs.address.canonical.Tie as tie
 
 returns : tie.Need-returns
 unfolding canonical
