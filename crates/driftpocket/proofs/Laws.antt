@@ -18,10 +18,11 @@ use Rattle.answers.specs.declared.answer.Refusal.the-variants.{Length, Kind, Ad
 use Rattle.answers.specs.declared.answer.Vector.{Vector}
 use Rattle.answers.specs.declared.answer.Vector.the-variants.{InvalidOpcode, Stack, Protection, Page, Control}
 use Rattle.processor.specs.State.{inRange}
-use Rattle.processor.specs.Layout.{fields, stateOf, formed, wordsOf}
+use Rattle.processor.specs.Layout.{fields, stateOf, wordsOf}
+use Rattle.state_words.specs.Formed.{formed}
 use Rattle.processor.specs.declared.state.State.{State}
-use Rattle.processor.specs.declared.layout.Formed.the-variants.{Whole, NoState}
-use Rattle.processor.proofs.Layouts.{formed-whole, good-whole, good-none}
+use Rattle.state_words.specs.declared.Formed.the-variants.{Whole, NoState}
+use Rattle.state_words.proofs.Laws.{formed-whole, good-whole, good-none}
 use Rattle.replay.specs.Run.{inputOf, afterPages, checkBy, check, run, replayed}
 use Rattle.replay.specs.declared.steps.Tested.{Tested}
 use Rattle.replay.specs.declared.steps.Tested.the-variants.{Passed, Failed}

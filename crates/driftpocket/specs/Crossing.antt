@@ -9,7 +9,8 @@ use Rattle.answers.specs.Answer.{vectorNumber, refusalNumber, roomNumber, repor
 use Rattle.answers.specs.declared.answer.Answer.{Answer}
 use Rattle.answers.specs.declared.answer.Answer.the-variants.{Completed, Refused, Faulted}
 use Rattle.answers.specs.declared.answer.Report.{Report}
-use Rattle.processor.specs.Layout.{stateOf, goodState, wordsOf}
+use Rattle.processor.specs.Layout.{stateOf, wordsOf}
+use Rattle.state_words.specs.Formed.{goodState}
 use Rattle.replay.specs.Run.{Run, inputOf, checkBy, replayed}
 use Rattle.replay.specs.declared.steps.Tested.{Tested}
 use Rattle.replay.specs.declared.steps.Tested.the-variants.{Passed, Failed}

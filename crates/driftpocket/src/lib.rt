@@ -9,8 +9,8 @@ ghost use Rattle.driftpocket.specs.Crossing.{reportWords, numberOf as nu
 use answers::NO_ROOM;
 use numbers::copy_words;
 use processor::Answer;
-use processor::Formed;
 use replay::Tested;
+use state_words::Formed;
 
 // How many words a report has.
 const REPORT: usize = 5;
@@ -72,7 +72,7 @@ pub extern "C" fn driftpocket_run(
     ensures { λ r. ⌜ record { number = r; state = now (state .exit); bytes = now (bytes .exit); report = now (report .exit) }
         ≡ crossed (now (state .entry)) (now (pages .entry)) (now (bytes .entry)) (now (words .entry)) (now (report .entry)) ⌝ }
 {
-    let Formed::Whole(start) = processor::state_of(state) else {
+    let Formed::Whole(start) = state_words::state_of(state) else {
         let tested = replay::check(pages, bytes.len(), false, words.len());
         return refuse(tested, report);
     };

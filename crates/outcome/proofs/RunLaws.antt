@@ -9,7 +9,8 @@ use borrow.Author.Tests.{le-leb}
 use Rattle.numbers.specs.Buffers.{laid}
 use Rattle.numbers.proofs.Laws.{laid-front, length-laid}
 use Rattle.processor.specs.State.{inRange}
-use Rattle.processor.specs.Layout.{stateOf, formed, goodState, wordsOf}
+use Rattle.processor.specs.Layout.{stateOf, wordsOf}
+use Rattle.state_words.specs.Formed.{formed, goodState}
 use Rattle.processor.specs.declared.state.State.{State}
 use Rattle.replay.specs.Run.{Run, inputOf, checkBy, replayed}
 use Rattle.replay.specs.declared.steps.Tested.the-variants.{Passed}

@@ -20,12 +20,12 @@ use memory::PAGE_BYTES;
 use memory::PAGE_LIMIT;
 use processor::Answer;
 use processor::FIELDS;
-use processor::Formed;
 use processor::Refusal;
 use processor::State;
 use replay::INSTRUCTION_LIMIT;
 use sheet_read::Reading;
 use sheet_write::Writing;
+use state_words::Formed;
 use texts::FIELD;
 use texts::put_line;
 
@@ -158,7 +158,7 @@ fn outcome(text: &[u8], line: &mut [u8], sheet: &mut [u8]) -> Fronts
     match sheet_read::read(text, &mut state, &mut pages, &mut bytes, &mut words) {
         Reading::Done(sizes) => {
             // What was read has its ten fields.
-            let Formed::Whole(start) = processor::state_of(&state) else {
+            let Formed::Whole(start) = state_words::state_of(&state) else {
                 return refuse(Refusal::State.number(), 0, line);
             };
             let listed = sizes.pages;

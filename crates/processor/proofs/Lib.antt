@@ -1,3 +1,2 @@
--- Laws that belong to no one function: Laws on the access language, Layouts on words as a state.
+-- Laws that belong to no one function: on the access language.
 pub mod Laws
-pub mod Layouts

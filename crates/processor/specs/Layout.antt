@@ -1,14 +1,9 @@
 -- The layout of a state: its fields in the order of the rules, from words and to words, and the state with some of them changed
 -- (docs/RULES.md, "State"). A further field edits the struct and this file. Assumes nothing.
 use Prim.Native.Nat.{ℕ}
-use mathlib.Core.Bool.{Bool, false, cond}
 use mathlib.Core.List.{List, [], _∷_}
-use lib.ListN.{length, getD}
-use lib.Dec.{eqb}
-use Rattle.processor.specs.State.{inRange}
+use lib.ListN.{getD}
 use Rattle.processor.specs.declared.state.State.{State}
-use Rattle.processor.specs.declared.layout.Formed.{Formed}
-use Rattle.processor.specs.declared.layout.Formed.the-variants.{Whole, NoState}
 
 -- how many fields there are
 abbrev pub fields : ℕ
@@ -29,18 +24,6 @@ stateOf words =
       flags = getD words 8 0;
       limit = getD words 9 0;
     }
-
--- what words make: a state, if they are as many as it has fields
-unfoldable pub formed : List ℕ → Formed
-formed words = cond (eqb (length words) fields) (Whole (stateOf words)) NoState
-
--- they make a state, and each field is in its range
-abbrev pub goodFormed : Formed → Bool
-goodFormed (Whole s) = inRange s
-goodFormed NoState = false
-
-unfoldable pub goodState : List ℕ → Bool
-goodState words = goodFormed (formed words)
 
 -- the words of a state
 abbrev pub wordsOf : State → List ℕ

@@ -3,11 +3,11 @@ mod runs;
 mod steps;
 
 pub use instructions::Instruction;
-pub use processor::Formed;
-pub use processor::good_state;
-pub use processor::state_of;
 pub use runs::Replay;
 pub use runs::run;
+pub use state_words::Formed;
+pub use state_words::good_state;
+pub use state_words::state_of;
 pub use steps::INSTRUCTION_LIMIT;
 pub use steps::Tested;
 pub use steps::check;

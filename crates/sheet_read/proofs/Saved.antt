@@ -9,7 +9,8 @@ use borrow.Author.Tests.{leb-true}
 use lib.ListN.{length, drop}
 use Rattle.numbers.specs.Buffers.{laid}
 use Rattle.pages.specs.Pages.{pageBytes, pageLimit}
-use Rattle.processor.specs.Layout.{fields, goodState}
+use Rattle.processor.specs.Layout.{fields}
+use Rattle.state_words.specs.Formed.{goodState}
 use Rattle.answers.specs.declared.answer.Refusal.{Refusal}
 use Rattle.answers.specs.declared.answer.Refusal.the-variants.{Length}
 use Rattle.instructions.specs.Instruction.{instructionWords}

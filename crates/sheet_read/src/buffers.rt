@@ -4,7 +4,8 @@ ghost use Prim.Native.Nat.{_*_, _≤_};
 ghost use lib.ListN.{length};
 ghost use Rattle.pages.specs.Pages.{pageBytes, pageLimit};
 ghost use Rattle.instructions.specs.Instruction.{instructionWords};
-ghost use Rattle.processor.specs.Layout.{fields, goodState};
+ghost use Rattle.processor.specs.Layout.{fields};
+ghost use Rattle.state_words.specs.Formed.{goodState};
 ghost use Rattle.replay.specs.declared.steps.Tested.the-variants.{Passed};
 ghost use Rattle.sheet.specs.declared.line.Line.the-variants.{State as StateLine};
 ghost use Rattle.sheet.specs.Lent.{tested};
@@ -20,9 +21,9 @@ use memory::PAGE_BYTES;
 use memory::PAGE_LIMIT;
 use processor::FIELDS;
 use processor::Refusal;
-use processor::good_state;
 use replay::Tested;
 use sheet::Line;
+use state_words::good_state;
 
 // How many pages, bytes and words a run has.
 pub struct Sizes {

@@ -12,9 +12,9 @@ use crate::lay::lay;
 use crate::values::nonzero;
 use instructions::INSTRUCTION_WORDS;
 use processor::Refusal;
-use processor::good_state;
 use replay::Tested;
 use sheet::Line;
+use state_words::good_state;
 
 // What writing a run answers.
 pub enum Writing {

@@ -4,7 +4,7 @@ use lib.Seq.{length-take-le}
 use borrow.Author.Needs.{needs}
 use borrow.Author.Tests.{lt-ltb}
 use Rattle.processor.specs.Layout.{stateOf}
-use Rattle.processor.proofs.Layouts.{formed-whole}
+use Rattle.state_words.proofs.Laws.{formed-whole}
 use Rattle.outcome.specs.Outcome.{outcome}
 use Rattle.outcome.proofs.TextLaws.{Ready, Told, told, no-state-never}
 use Rattle.outcome.proofs.outcome.Statement.{statement}

@@ -1,7 +1,7 @@
 -- `is_good` meets its contract: the fields fill the array. Assumes nothing.
 use mathlib.Core.Path.{_∙_, sym, ap}
 use Rattle.numbers.proofs.Laws.{laid-whole}
-use Rattle.processor.specs.Layout.{goodState}
+use Rattle.state_words.specs.Formed.{goodState}
 use Rattle.sheet_read.proofs.Saved.{fields-long}
 use borrow.Author.Needs.{needs}
 use Rattle.sheet_read.proofs.buffers.is_good.Statement.{statement}

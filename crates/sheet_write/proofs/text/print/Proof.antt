@@ -3,8 +3,8 @@ use Prim.Native.Nat.{ℕ, _/_}
 use mathlib.Core.Path.{_≡_, sym, _∙_, ap}
 use native.Mathlib.Omega.{arith}
 use lib.ListN.{length}
-use Rattle.processor.specs.Layout.{goodState}
-use Rattle.processor.proofs.Layouts.{good-fields}
+use Rattle.state_words.specs.Formed.{goodState}
+use Rattle.state_words.proofs.Laws.{good-fields}
 use Rattle.instructions.specs.Instruction.{instructionWords}
 use Rattle.sheet.specs.Lent.{Buffers}
 use Rattle.sheet.specs.Sheets.{text, savedOf}

@@ -7,10 +7,11 @@ use native.Mathlib.Omega.{arith}
 use lib.ListN.{length}
 use lib.Dec.{eqb}
 use borrow.Author.Tests.{eq-eqb, eqb-true}
 use Rattle.processor.specs.State.{inRange}
-use Rattle.processor.specs.Layout.{fields, stateOf, formed, goodState}
+use Rattle.processor.specs.Layout.{fields, stateOf}
+use Rattle.state_words.specs.Formed.{formed, goodState}
 use Rattle.processor.specs.declared.state.State.{State}
-use Rattle.processor.specs.declared.layout.Formed.the-variants.{Whole, NoState}
+use Rattle.state_words.specs.declared.Formed.the-variants.{Whole, NoState}
 
 module _ (words : List ℕ) where
   pub formed-whole : (s : State) → formed words ≡ Whole s → (length words ≡ fields) × (s ≡ stateOf words)

@@ -1,9 +1,9 @@
 -- `good_state` meets its contract, by what the words make. Assumes nothing.
 use mathlib.Core.Path.{sym, _∙_}
-use Rattle.processor.specs.Layout.{goodState}
+use Rattle.state_words.specs.Formed.{goodState}
 use borrow.Author.Needs.{needs}
-use Rattle.processor.proofs.layout.good_state.Statement.{statement}
-use Rattle.processor.proofs.layout.good_state.Tie as tie
+use Rattle.state_words.proofs.good_state.Statement.{statement}
+use Rattle.state_words.proofs.good_state.Tie as tie
 
 state-of-requires : tie.Need-state-of-requires
 state-of-requires c κs = search needs

@@ -1,9 +1,10 @@
 -- `state_of` meets its contract: as many words as fields, in their order. Assumes nothing.
-use Rattle.processor.specs.Layout.{stateOf, formed}
+use Rattle.processor.specs.Layout.{stateOf}
+use Rattle.state_words.specs.Formed.{formed}
 use borrow.Author.Tests.{eq-eqb, ne-eqb}
 use borrow.Author.Needs.{needs}
-use Rattle.processor.proofs.layout.state_of.Statement.{statement}
-use Rattle.processor.proofs.layout.state_of.Tie as tie
+use Rattle.state_words.proofs.state_of.Statement.{statement}
+use Rattle.state_words.proofs.state_of.Tie as tie
 
 returns : tie.Need-returns
 unfolding formed

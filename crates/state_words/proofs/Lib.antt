@@ -1,0 +1,2 @@
+-- Laws on words as a state, for the crates above.
+pub mod Laws
