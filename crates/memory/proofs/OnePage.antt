@@ -11,9 +11,8 @@ use lib.Dec.{ltb, leb}
 use borrow.Author.Tests.{leb-true, leb-false, le-leb, le-ltb, lt-ltb}
 use Rattle.addresses.specs.Address.{plus, canonical}
 use Rattle.pages.specs.Pages.{Lookup, pageBytes, pageOf, kindOf, onPage, inPage, spotFrom, spot}
-use Rattle.numbers.specs.Numbers.{byteCount}
+use Rattle.numbers.specs.Numbers.{byteCount, numberAt, putAt}
 use Rattle.accesses.specs.Access.{andThen, scan, canonicalByte, listedByte, lookupOf, kindNumber, start, canonicalBytes, listedBytes, probe, byteIn, number, write, value, load, written, store}
-use Rattle.numbers.specs.Numbers.{numberAt, putAt}
 use Rattle.memory.specs.OnePage.{onePage, further, PageHolds, locatedIf, within, located, firstReach, firstLocated, quickly, onLentPage, storeAt}
 use Rattle.memory.specs.Promises.{FirstByteDecides, OnePageExactly}
 use Rattle.addresses.specs.declared.address.Width.{Width}

@@ -10,8 +10,7 @@ use lib.Dec.{eqb}
 use Rattle.addresses.specs.Address.{plus}
 use Rattle.pages.specs.Pages.{Lookup}
 use Rattle.numbers.specs.Numbers.{byteCount}
-use Rattle.accesses.specs.Access.{andThen, scan, onKind, listedByte, kindNumber, start, canonicalBytes, listedBytes, probe}
-use Rattle.accesses.specs.Access.{byteIn, number, putByte, write, value, loadedIf, load, written, storedIf, store}
+use Rattle.accesses.specs.Access.{andThen, scan, onKind, listedByte, kindNumber, start, canonicalBytes, listedBytes, probe, byteIn, number, putByte, write, value, loadedIf, load, written, storedIf, store}
 use Rattle.memory.specs.Extends.{cellIn, present, cell, Extends, Places}
 use Rattle.addresses.specs.declared.address.Width.{Width}
 use Rattle.pages.specs.declared.pages.Spot.{Spot}

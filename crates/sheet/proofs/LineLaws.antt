@@ -28,7 +28,7 @@ use borrow.Author.Tests.{eq-eqb, eqb-true, leb-true, not-true}
 use Rattle.numbers.specs.Buffers.{laid}
 use Rattle.numbers.proofs.Laws.{lies-inside}
 use Rattle.texts.specs.Digits.{tab, lineFeed, digits, number, valueOf, Below}
-use Rattle.texts.specs.Fields.{fields, lineOf, joined, lines, anyDigit, numberForm, fieldForms, begins, numeral, valuesIn}
+use Rattle.texts.specs.Fields.{fields, joined, lines, anyDigit, numberForm, fieldForms, begins, numeral, valuesIn}
 use Rattle.sheet.specs.Lines.{name, fieldCount, line, form, first, width, isLine, values, fitsLine, putLine}
 use Rattle.texts.specs.declared.digits.Numeral.the-variants.{Number}
 use Rattle.sheet.specs.Reading.{next}

@@ -1,30 +1,24 @@
 -- The turns of the loops: what each definition gives from a place on, in the terms of the code. Assumes nothing.
-use Prim.Native.Nat.{ℕ, suc, _+_, _-_, _*_, _/_, _%_, _^_, _<_, _≤_}
+use Prim.Native.Nat.{ℕ, suc, _+_, _-_, _*_, _<_, _≤_}
 use mathlib.Core.Path.{_≡_, sym, ap, _∙_}
-use mathlib.Core.Bool.{Bool, false, true, cond, and-true, and-assoc, _&&_}
+use mathlib.Core.Bool.{Bool, false, true, and-true, and-assoc, _&&_}
 use mathlib.Core.List.{List, [], _∷_, _++_}
-use native.Mathlib.Nat.{pow-suc, pow-le-pow-right}
 use native.Mathlib.Numerals.{add-one}
 use native.Mathlib.Omega.{arith}
-use lib.Dec.{lit<, eqb}
-use lib.ListN.{length, getD, take, drop, set, replicate, length-drop, drop-of-length-le}
+use lib.Dec.{eqb}
+use lib.ListN.{length, getD, take, drop, length-drop, drop-of-length-le}
 use lib.Seq.{take-all, drop-cons, drop-drop}
-use Rattle.texts.specs.Digits.{digit, isDigit, digitValue, hex, number, tab, lineFeed, letterX, valueFrom, valueOf}
+use Rattle.texts.specs.Digits.{tab, lineFeed}
 use Rattle.numbers.specs.Numbers.{inside}
-use Rattle.numbers.specs.Buffers.{laid, laidIf}
-use Rattle.numbers.proofs.Laws.{length-laid, laid-last, laid-nil, laid-turn}
-use Rattle.texts.specs.Fields.{anyDigit, numberForm, fieldForms, begins, fitsMark, numeral, fields, lineOf}
+use Rattle.numbers.specs.Buffers.{laidIf}
+use Rattle.texts.specs.Fields.{numberForm, fieldForms, begins, fitsMark, lineOf}
 use Rattle.sheet.specs.Lines.{name, fieldCount, form, first, width, line, fitsLine, putLine}
 use Rattle.sheet.specs.Names.{Spells}
 use Rattle.sheet.specs.declared.line.Line.{Line}
 use Rattle.sheet.specs.declared.line.Name.{Name}
-use Rattle.texts.specs.declared.digits.Numeral.{Numeral}
-use Rattle.texts.specs.declared.digits.Numeral.the-variants.{Number, NoNumber}
-use Rattle.texts.proofs.DigitLaws.{hex-length, number-length}
-use Rattle.texts.proofs.Fields.{fields-length, forms-length}
-use Rattle.texts.proofs.Fields.{line-long}
-use Rattle.texts.proofs.FormLaws.{begins-short, begins-append, begins-take}
-use borrow.Author.Tests.{lt-leb, leb-false, eq-eqb, ne-eqb}
+use Rattle.texts.proofs.Fields.{forms-length, line-long}
+use Rattle.texts.proofs.FormLaws.{begins-append, begins-take}
+use borrow.Author.Tests.{eq-eqb, ne-eqb}
 
 -- ---- a form against a text
 

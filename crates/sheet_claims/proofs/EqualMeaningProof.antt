@@ -5,7 +5,7 @@ use mathlib.Core.Logic.{_⊎_, inl, inr}
 use mathlib.Core.Path.{_≡_, refl, sym, ap, ap₂}
 use native.Mathlib.Omega.{arith}
 use Rattle.memory.specs.Extends.{HoldsPages}
-use Rattle.sheet.specs.Sheets.{Page, Ascending, pagesOf, ascended, savedOf, text}
+use Rattle.sheet.specs.Sheets.{Page, Ascending, pagesOf, ascended, savedOf}
 use Rattle.order.specs.Order.{pageNumber}
 use Rattle.sheet_claims.specs.EqualMeaning.{EqualText, EqualWrites}
 use Rattle.replay.specs.Run.{checkBy}

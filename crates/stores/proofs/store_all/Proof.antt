@@ -7,8 +7,7 @@ use native.Mathlib.Omega.{arith}
 use lib.ListN.{length}
 use borrow.Author.Needs.{needs}
 use Rattle.accesses.specs.Access.{lookupOf}
-use Rattle.stores.proofs.Turns.{slotCount, Trying, trying-starts, tried-to-end, tried-all, tried-blocked, tried-within, tried-across}
-use Rattle.stores.proofs.Turns.{Making, making-starts, made-to-end, made-all, this-ready, made}
+use Rattle.stores.proofs.Turns.{slotCount, Trying, trying-starts, tried-to-end, tried-all, tried-blocked, tried-within, tried-across, Making, making-starts, made-to-end, made-all, this-ready, made}
 use Rattle.stores.proofs.store_all.Statement.{statement}
 use Rattle.stores.proofs.store_all.Tie as tie
 

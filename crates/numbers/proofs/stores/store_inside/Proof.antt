@@ -1,8 +1,7 @@
 -- `store_inside` meets its contract: four bytes, or twice four. Assumes nothing.
 use native.Mathlib.Omega.{arith}
 use borrow.Author.Needs.{needs}
-use Rattle.numbers.proofs.Bytes.{at-least-four}
-use Rattle.numbers.proofs.Bytes.{length-put-at, put-eight}
+use Rattle.numbers.proofs.Bytes.{at-least-four, length-put-at, put-eight}
 use Rattle.numbers.proofs.stores.store_inside.Statement.{statement}
 use Rattle.numbers.proofs.stores.store_inside.Tie as tie
 
