@@ -1,6 +1,7 @@
 -- The theorems on run sheets, each of the type of that name in specs/, and what they stand on. All of it is said of lists of lines: of
 -- bytes only the laws on single lines speak (sheet's proofs/LineLaws).
 --
+--     NumeralsProof         number-read, only-numbers
 --     WorkedProof           worked
 --     RoundTripsProof       reads-back, writes-back
 --     FirstBadLineProof     from-one, before, not-here
@@ -9,6 +10,7 @@
 --     Promised              promised: all of them
 --     SavedLaws             lent-whole, ascended-valid, saved-back: from the lent buffers to a sheet and back
 
+pub mod NumeralsProof
 pub mod WorkedProof
 pub mod RoundTripsProof
 pub mod FirstBadLineProof

@@ -1,5 +1,6 @@
 -- Every claim on sheets is proved. Assumes nothing.
 use Rattle.sheet_claims.specs.Promises.{Promises}
+use Rattle.sheet_claims.proofs.NumeralsProof.{number-read, only-numbers}
 use Rattle.sheet_claims.proofs.WorkedProof.{worked}
 use Rattle.sheet_claims.proofs.RoundTripsProof.{reads-back, writes-back}
 use Rattle.sheet_claims.proofs.FirstBadLineProof.{from-one, before, not-here}
@@ -8,6 +9,8 @@ use Rattle.sheet_claims.proofs.LentBuffersProof.{saved-sheeted, longest
 
 pub promised : Promises
 promised = record {
+  number-read = number-read;
+  only-numbers = only-numbers;
   worked = worked;
   saved-sheeted = saved-sheeted;
   reads-back = reads-back;

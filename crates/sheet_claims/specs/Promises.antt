@@ -1,5 +1,6 @@
 -- Every claim on sheets in one place. The theorem `promised` (proofs/Promised.antt) is of the type here, so a claim that lost its proof
 -- would be an error. Assumes nothing.
+use Rattle.sheet_claims.specs.Numerals.{NumberRead, OnlyNumbers}
 use Rattle.sheet_claims.specs.Worked.{Worked}
 use Rattle.sheet_claims.specs.RoundTrips.{SavedSheeted, ReadsBack, WritesBack}
 use Rattle.sheet_claims.specs.FirstBadLine.{FromOne, Before, NotHere}
@@ -7,6 +8,8 @@ use Rattle.sheet_claims.specs.EqualMeaning.{EqualText, EqualWrites}
 use Rattle.sheet_claims.specs.LentBuffers.{LongestText, WrittenRead, PagesReadBack, ReadWritten, ReadUntouched, WriteUntouched}
 
 pub record Promises : Type 0 where
+  pub number-read : NumberRead
+  pub only-numbers : OnlyNumbers
   pub worked : Worked
   pub saved-sheeted : SavedSheeted
   pub reads-back : ReadsBack

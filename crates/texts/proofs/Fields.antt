@@ -2,15 +2,17 @@
 -- number of fields. Assumes nothing.
 use Prim.Native.Nat.{ℕ, zero, suc, _+_, _*_, _/_, _%_, _^_, _<_}
 use mathlib.Core.Path.{_≡_, refl, sym, ap, ap₂, _∙_}
-use mathlib.Core.Bool.{true}
+use mathlib.Core.Bool.{true, false≢true}
 use mathlib.Core.List.{List, [], _∷_, _++_, append-assoc}
 use native.Mathlib.Numerals.{add-one}
 use native.Mathlib.Omega.{arith}
 use lib.ListN.{length, take, drop, getD, replicate, length-append, length-take, length-replicate, replicate-append-replicate, take-append-drop}
+use lib.Dec.{eqb}
 use lib.Seq.{drop-drop, take-at, drop-at, length-take-le}
+use borrow.Author.Tests.{eqb-true}
 use Rattle.texts.specs.Digits.{tab, lineFeed, letterX, digits, digit, hex, number, valueOf}
 use Rattle.texts.specs.Fields.{fields, lineOf, anyDigit, numberForm, fieldForms, begins, valuesIn}
-use Rattle.texts.proofs.DigitLaws.{digit-is, hex-length, number-length, value-below, value-hex, hex-value}
+use Rattle.texts.proofs.DigitLaws.{both, digit-is, hex-length, number-length, value-below, value-hex, hex-value}
 use Rattle.texts.proofs.FormLaws.{begins-room, begins-take, begins-parts, begins-both, begins-letters, lacks}
 
 -- ---- lengths
@@ -48,6 +50,10 @@ hex-begins (suc n) v =
     ap (λ (marks : List ℕ). begins marks (hex (suc n) v)) (sym (replicate-append-replicate n 1 anyDigit ∙ ap (λ (k : ℕ). replicate k anyDigit) (add-one n)))
     ∙ begins-both (replicate n anyDigit) (anyDigit ∷ []) (hex n (v / 16)) (digit (v % 16) ∷ []) (hex-length n (v / 16) ∙ sym (length-replicate n anyDigit)) (hex-begins n (v / 16))
     (rw (digit-is (v % 16) (omega arith)))
+
+pub number-begins : (v : ℕ) → begins numberForm (number v) ≡ true
+unfolding number begins
+number-begins v = hex-begins digits v
 
 pub fields-begin : (vs : List ℕ) → begins (fieldForms (length vs)) (fields vs) ≡ true
 unfolding fields number fieldForms begins
@@ -99,6 +105,14 @@ hex-front : (u : List ℕ) → begins (replicate digits anyDigit) u ≡ true →
 hex-front u h =
     hex-value (take digits u) (length-take-le digits u (begins-room (replicate digits anyDigit) u h))
     (begins-take (replicate digits anyDigit) u digits (omega arith) ∙ h)
+
+-- a text that begins with a number's form begins with that number
+pub number-front : (u : List ℕ) → begins numberForm u ≡ true → take 17 u ≡ number (valueOf (take digits (drop 1 u)))
+unfolding number begins
+number-front [] h = absurd (false≢true h)
+number-front (c ∷ cs) h =
+    let parts = both (eqb c letterX) (begins (replicate digits anyDigit) cs) h in
+    ap₂ (λ (d : ℕ) (ds : List ℕ). d ∷ ds) (eqb-true c letterX (parts .0)) (sym (hex-front cs (parts .1)))
 
 pub fields-values : (n : ℕ) (u : List ℕ) → begins (fieldForms n) u ≡ true → fields (valuesIn n u) ++ drop (18 * n) u ≡ u
 unfolding fields number valuesIn fieldForms lacks

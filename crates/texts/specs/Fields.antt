@@ -10,6 +10,7 @@ use Rattle.texts.specs.declared.digits.Numeral.the-variants.{Number, NoN
 
 -- ---- writing
 
+-- numbers, each behind a tab
 unfoldable pub fields : List ℕ → List ℕ
 fields [] = []
 fields (v ∷ vs) = tab ∷ (number v ++ fields vs)
@@ -24,6 +25,7 @@ fieldBytes = 18
 
 -- ---- a text and its lines
 
+-- lines, one behind the other
 unfoldable pub joined : List (List ℕ) → List ℕ
 joined [] = []
 joined (l ∷ ls) = l ++ joined ls
@@ -40,7 +42,7 @@ lines (c ∷ cs) = cond (eqb c lineFeed) ((c ∷ []) ∷ lines cs) (inFront c (l
 
 -- ---- reading: from here on nothing need be believed, since reading is pinned to writing (crates/sheet_claims)
 
--- a mark that stands for any digit: #
+-- Forms: a mark in one stands for itself, but this one, #, for any digit.
 abbrev pub anyDigit : ℕ
 anyDigit = 35
 
@@ -51,6 +53,7 @@ unfoldable pub fieldForms : ℕ → List ℕ
 fieldForms zero = []
 fieldForms (suc n) = tab ∷ (numberForm ++ fieldForms n)
 
+-- a character fits its mark
 abbrev pub fitsMark : ℕ → ℕ → Bool
 fitsMark mark c = cond (eqb mark anyDigit) (isDigit c) (eqb c mark)
 
