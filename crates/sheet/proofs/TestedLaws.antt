@@ -13,9 +13,11 @@ use Rattle.pages.specs.declared.pages.Listing.the-variants.{Valid, BadLength, B
 use Rattle.pages.proofs.Laws.{ValidList, valid-list, list-valid, too-many-entries}
 use Rattle.answers.specs.declared.answer.Refusal.{Refusal}
 use Rattle.answers.specs.declared.answer.Refusal.the-variants.{Length}
+use Rattle.processor.specs.Layout.{goodState}
 use Rattle.replay.specs.Run.{instructionLimit, badWords, afterPages, checkBy}
 use Rattle.replay.specs.declared.steps.Tested.{Tested}
 use Rattle.replay.specs.declared.steps.Tested.the-variants.{Passed, Failed}
+use Rattle.sheet.specs.Lent.{Buffers, tested}
 
 pub record Passes (entries : List ℕ) (lent : ℕ) (good : Bool) (words : ℕ) : Type 0 where
   pub list : ValidList entries lent
@@ -58,3 +60,14 @@ passed entries lent good words h =
 pub too-many : (entries : List ℕ) (lent : ℕ) (good : Bool) (words : ℕ) → pageLimit < length entries → checkBy entries lent good words ≡ Failed Length
 unfolding checkBy
 too-many entries lent good words more = rw (too-many-entries entries lent more)
+
+-- ---- of a run in lent buffers
+
+abbrev pub RunPasses : Buffers → Type 0
+RunPasses run = Passes (run .pages) (length (run .bytes)) (goodState (run .state)) (length (run .words))
+
+pub run-passes : (run : Buffers) → tested run ≡ Passed → RunPasses run
+run-passes run e = passes _ _ _ _ e
+
+pub run-passed : (run : Buffers) → RunPasses run → tested run ≡ Passed
+run-passed run h = passed _ _ _ _ h

@@ -1,6 +1,6 @@
 -- The run of a sheet by its shape: how long each part is, how it is tested, what lies in the buffers after it. Assumes nothing.
 use Prim.Native.Nat.{ℕ, _*_, _<_, _≤_}
-use mathlib.Core.Path.{_≡_, refl, sym, ap, _∙_}
+use mathlib.Core.Path.{_≡_, refl, ap, _∙_}
 use mathlib.Core.Bool.{true, false}
 use mathlib.Core.List.{List}
 use native.Mathlib.Omega.{arith}
@@ -25,7 +25,7 @@ use Rattle.sheet.specs.Reading.{Parsed, noSheet, pagesIn, parsed}
 use Rattle.sheet.specs.declared.line.Line.{Line}
 use Rattle.sheet.specs.declared.line.Line.the-variants.{State, Page, Do}
 use Rattle.texts.proofs.DigitLaws.{both}
-use Rattle.sheet.proofs.TestedLaws.{passes, too-many}
+use Rattle.sheet.proofs.TestedLaws.{run-passes, too-many}
 use Rattle.sheet_read.specs.Reads.{untouched, sizesOf, fits, filled, byTest, byText, reads}
 use Rattle.sheet_read.specs.Scan.{Stands, numbersIn, savedAt, Shaped, runAt, sizesAt, roomFor}
 use Rattle.sheet_read.specs.declared.buffers.Sizes.{Sizes}
@@ -80,7 +80,8 @@ module _ (t : List ℕ) (shape : Shape) (s : Shaped t shape) where
   too-many-pages many = tested-is ∙ too-many _ _ _ _ (rw pages-long many)
 
   pub few-pages : tested (runAt t shape) ≡ Passed → shape .pages .count ≤ pageLimit
-  few-pages passed = rw pages-long at (passes _ _ _ _ (sym tested-is ∙ passed) .list .few)
+  unfolding runAt
+  few-pages passed = rw pages-long at (run-passes (runAt t shape) passed .list .few)
 
   module _ (lent : Buffers) where
     fits-are : fits (runAt t shape) lent ≡ roomFor (sizesAt shape) (length (lent .state)) (length (lent .pages)) (length (lent .bytes)) (length (lent .words))

@@ -5,10 +5,11 @@ use native.Mathlib.Omega.{arith}
 use lib.ListN.{length}
 use Rattle.state_words.specs.Formed.{goodState}
 use Rattle.state_words.proofs.Laws.{good-fields}
+use Rattle.processor.proofs.Layouts.{good-fields}
 use Rattle.instructions.specs.Instruction.{instructionWords}
 use Rattle.sheet.specs.Lent.{Buffers}
 use Rattle.sheet.specs.Sheets.{text, savedOf}
-use Rattle.sheet.proofs.TestedLaws.{Passes, passes}
+use Rattle.sheet.proofs.TestedLaws.{RunPasses, run-passes}
 use Rattle.sheet_write.specs.Laying.{textLength}
 use Rattle.sheet_write.proofs.Answers.{too-long, done}
 use Rattle.sheet_write.proofs.Apart.{lent}
@@ -21,11 +22,11 @@ use Rattle.sheet_write.proofs.text.print.Tie as tie
 abbrev way-text-length : tie.After-text-length → record { start : tie.Start }
 way-text-length c = record { start = c .before .before .before .before .before .before .before }
 
-tested : (c : tie.Start) → Passes (c .args .pages .now) (length (c .args .bytes .now)) (goodState (c .args .state .now)) (length (c .args .words .now))
-tested c = passes _ _ _ _ (c .pre)
-
 abbrev run : tie.Start → Buffers
 run c = record { state = c .args .state .now; pages = c .args .pages .now; bytes = c .args .bytes .now; words = c .args .words .now }
+
+tested : (c : tie.Start) → RunPasses (run c)
+tested c = run-passes (run c) (c .pre)
 
 -- the count is the text's length
 long : (c : tie.After-text-length) → c .text-length .result ≡ length (text (savedOf (run (way-text-length c .start))))
