@@ -1,5 +1,5 @@
 -- The text of a sheet has the lines that were printed. Assumes nothing.
-use Prim.Native.Nat.{ℕ, zero, suc, _+_, _*_, _/_, _^_, _<_, _≤_}
+use Prim.Native.Nat.{ℕ, zero, suc, _+_, _*_, _/_, _%_, _^_, _<_, _≤_}
 use mathlib.Core.Bool.{Bool, true, false, cond}
 use mathlib.Core.List.{List, [], _∷_, _++_}
 use mathlib.Core.Path.{_≡_, refl}
@@ -64,6 +64,9 @@ only-plain kind (suc n) ns long small =
     only-printed kind (take (fieldCount kind) ns) (plainLines kind n (drop (fieldCount kind) ns)) (own-long kind n ns long small) (own-small kind n ns long small)
     (only-plain kind n (drop (fieldCount kind) ns) (rest-long kind n ns long small) (rest-small kind n ns long small))
 
+only-all : (kind : Line) (ns : List ℕ) → length ns % fieldCount kind ≡ 0 → Below (2 ^ 64) ns → LinesOnly (allPlain kind ns)
+only-all kind ns whole small = only-plain kind (length ns / fieldCount kind) ns (filled kind ns whole) small
+
 pub lines-of-text : (s : Saved) → Sheeted s → lines (text s) ≡ sheetLines s
 unfolding sheetLines text
 lines-of-text s h =
@@ -71,5 +74,4 @@ lines-of-text s h =
     (only-printed Sheet (version ∷ []) _ refl (one-below version (omega arith))
     (only-printed State (s .state) _ (h .fields) (h .state)
     (only-pages (s .pages) _ (h .pages)
-    (only-append (pagesWords (s .pages)) (allPlain Do (s .words)) (only-words (s .pages) (h .pages))
-    (only-plain Do (length (s .words) / fieldCount Do) (s .words) (filled Do (s .words) (h .whole)) (h .words))))))
+    (only-append (pagesWords (s .pages)) (allPlain Do (s .words)) (only-words (s .pages) (h .pages)) (only-all Do (s .words) (h .whole) (h .words))))))

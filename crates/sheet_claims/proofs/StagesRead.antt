@@ -1,21 +1,25 @@
 -- The lines of a printed sheet, read back stage by stage: nothing is left. Assumes nothing.
-use Prim.Native.Nat.{ℕ, suc, _*_, _/_, _^_}
+use Prim.Native.Nat.{ℕ, suc}
 use mathlib.Core.Bool.{false}
 use mathlib.Core.List.{List, [], _∷_, _++_, append-nil}
 use mathlib.Core.Path.{_≡_, refl, ap}
 use native.Mathlib.Omega.{arith}
 use lib.ListN.{length}
-use lib.Seq.{take-append-seam, drop-append-seam, take-length, drop-length}
+use lib.Seq.{take-append-seam, drop-append-seam}
 use borrow.Author.Tests.{le-leb}
 use Rattle.texts.specs.Digits.{Below}
 use Rattle.sheet.specs.Lines.{fieldCount, line, isLine}
 use Rattle.sheet.specs.Sheets.{Page, Saved, Sheeted, Ascending, WholePages, pagesWords, pageLines, plainLines, entriesOf}
 use Rattle.order.specs.Order.{pageNumber}
 use Rattle.sheet.specs.Reading.{next, isWord, pageCount, numbers, plainCount, stages}
+use Rattle.sheet.specs.Lines.{line, isLine}
+use Rattle.sheet.specs.Sheets.{Page, Saved, Sheeted, Ascending, WholePages, pagesWords, pageLines, allPlain, entriesOf}
+use Rattle.pages.specs.Pages.{pageNumber}
+use Rattle.sheet.specs.Reading.{next, pageCount, numbers, stages}
 use Rattle.sheet.specs.declared.line.Line.{Line}
 use Rattle.sheet.specs.declared.line.Line.the-variants.{Page as PageLine, Word, Do}
 use Rattle.sheet.proofs.LineLaws.{is-line-line, values-line}
-use Rattle.sheet_claims.proofs.Plain.{filled, next-plain, plain-counted, plain-read}
+use Rattle.sheet_claims.proofs.Plain.{none-next, stage-read}
 use Rattle.sheet_claims.proofs.LineKinds.{no-other, no-line, one-below, word-line, no-word}
 use Rattle.sheet_claims.proofs.WordsRead.{next-of-pages, pages-read}
 
@@ -43,40 +47,26 @@ entries-read (p ∷ ps) whole = rw (values-line PageLine (p .entry ∷ []) refl 
 -- ---- all stages
 
 module _ (s : Saved) (h : Sheeted s) where
-  abbrev count : ℕ
-  count = length (s .words) / fieldCount Do
-
-  four-each : length (s .words) ≡ fieldCount Do * count
-  four-each = filled Do (s .words) (h .whole)
-
   abbrev dos : List (List ℕ)
-  dos = plainLines Do count (s .words)
+  dos = allPlain Do (s .words)
 
-  -- nothing follows the instructions, so what is said of lines and others is said of them alone
-  next-do : (P : List ℕ → Type 0) → ((vs : List ℕ) → length vs ≡ fieldCount Do → Below (2 ^ 64) vs → P (line Do vs)) → P [] → P (next dos)
-  next-do P one none = rw append-nil at (next-plain Do P count (s .words) [] one none four-each (h .words))
+  -- nothing follows the instructions
+  behind-words : (kind : Line) → (Do ≡ kind → ⊥) → isLine kind (next dos) ≡ false
+  behind-words kind no-dos = rw append-nil at (none-next Do (s .words) (h .whole) (h .words) kind [] no-dos (no-line kind))
 
-  dos-counted : plainCount Do dos ≡ length dos
-  dos-counted = rw append-nil at (plain-counted Do count (s .words) [] four-each (h .words) (no-line Do))
-
-  -- what follows the words is no word, and what follows the pages is neither word nor instruction
-  behind-words : (a : ℕ) → isWord a (next dos) ≡ false
-  behind-words a =
-      next-do (λ l. isWord a l ≡ false)
-      (λ vs four small. no-word a (line Do vs) (no-other Do Word (line Do vs) (is-line-line Do vs four small) (λ q. let z : _≡_ {A = ℕ} 0 1 = cc in omega arith)))
-      (no-word a [] (no-line Word))
-
+  -- what follows the pages is neither word nor instruction
   behind-pages : (kind : Line) → (Word ≡ kind → ⊥) → (Do ≡ kind → ⊥) → isLine kind (next (pagesWords (s .pages) ++ dos)) ≡ false
   behind-pages kind no-words no-dos =
       next-of-pages (λ l. isLine kind l ≡ false) 0 (s .pages) dos (h .ascending) (h .pages)
-      (λ a v low a-small v-small. no-other Word kind (line Word (a ∷ v ∷ [])) (word-line a v a-small v-small) no-words)
-      (next-do (λ l. isLine kind l ≡ false) (λ vs four small. no-other Do kind (line Do vs) (is-line-line Do vs four small) no-dos) (no-line kind))
+      (λ a v low a-small v-small. no-other Word kind (line Word (a ∷ v ∷ [])) (word-line a v a-small v-small) no-words) (behind-words kind no-dos)
 
   pub stages-read : stages (pageLines (s .pages) ++ (pagesWords (s .pages) ++ dos)) ≡ record { pages = s .pages; words = s .words; left = [] }
   unfolding stages
   stages-read =
       let other = behind-pages PageLine (λ q. let z : _≡_ {A = ℕ} 0 1 = cc in omega arith) (λ q. let z : _≡_ {A = ℕ} 0 1 = cc in omega arith) in
       let counted = pages-counted 0 (s .pages) (pagesWords (s .pages) ++ dos) (h .ascending) (h .pages) other in
-      let words = pages-read 0 (s .pages) dos (h .ascending) (h .pages) behind-words in
+      let no-words = behind-words Word (λ q. let z : _≡_ {A = ℕ} 0 1 = cc in omega arith) in
+      let words = pages-read 0 (s .pages) dos (h .ascending) (h .pages) (λ a. no-word a (next dos) no-words) in
+      let steps = rw append-nil at (stage-read Do (s .words) (h .whole) (h .words) [] (no-line Do)) in
       rw (counted, take-append-seam (pageLines (s .pages)), drop-append-seam (pageLines (s .pages)), entries-read (s .pages) (h .pages))
-      (rw (words .0, words .1, dos-counted, take-length dos, drop-length dos, plain-read Do count (s .words) four-each (h .words)))
+      (rw (words .0, words .1, steps .0, steps .1))

@@ -18,7 +18,7 @@ use Rattle.sheet.specs.declared.line.Line.the-variants.{State, Page as PageLine
 use Rattle.sheet.proofs.LineLaws.{line-values, values-below}
 use Rattle.sheet_claims.proofs.Bytes.{below-none, below-append}
 use Rattle.sheet_claims.proofs.LineKinds.{one-field}
-use Rattle.sheet_claims.proofs.Plain.{plain-taken, plain-whole}
+use Rattle.sheet_claims.proofs.Plain.{stage-taken, plain-whole}
 use Rattle.sheet_claims.proofs.WordsTaken.{words-taken, pages-whole}
 
 numbers-small : (kind : Line) (ls : List (List ℕ)) → Below (2 ^ 64) (numbers kind ls)
@@ -66,7 +66,7 @@ module _ (ls : List (List ℕ)) where
   pub stages-taken : (pageLines (stages ls .pages) ++ (pagesWords (stages ls .pages) ++ allPlain Do (stages ls .words))) ++ stages ls .left ≡ ls
   unfolding stages
   stages-taken =
-      rw (pages-taken 0 ls behind .1, plain-taken Do dos, append-assoc, append-assoc, take-append-drop (plainCount Do dos) dos, words-taken entries behind) (take-append-drop (pageCount 0 ls) ls)
+      rw (pages-taken 0 ls behind .1, append-assoc, append-assoc, stage-taken Do dos, words-taken entries behind) (take-append-drop (pageCount 0 ls) ls)
 
   pub stages-sheeted : (state : List ℕ) → length state ≡ fieldCount State → Below (2 ^ 64) state → Sheeted (record { state = state; pages = stages ls .pages; words = stages ls .words })
   unfolding stages
