@@ -36,12 +36,12 @@ use Rattle.sheet_read.proofs.Leads.{numbers-length}
 use Rattle.sheet_read.proofs.Pages.{entries-kept, bytes-length}
 
 -- every part fits its buffer
-pub room-parts : (sizes : Sizes) (state pages bytes words : ℕ) → roomFor sizes state pages bytes words ≡ true → (fields ≤ state) × (sizes .pages ≤ pages) × (sizes .bytes ≤ bytes) × (sizes .words ≤ words)
+pub room-parts : (sizes : Sizes) (state : ℕ) (room : Sizes) → roomFor sizes state room ≡ true → (fields ≤ state) × (sizes .pages ≤ room .pages) × (sizes .bytes ≤ room .bytes) × (sizes .words ≤ room .words)
 unfolding roomFor
-room-parts sizes state pages bytes words h =
+room-parts sizes state room h =
     let first = both (leb fields state) _ h in
-    let second = both (leb (sizes .pages) pages) _ (first .1) in
-    let third = both (leb (sizes .bytes) bytes) _ (second .1) in
+    let second = both (leb (sizes .pages) (room .pages)) _ (first .1) in
+    let third = both (leb (sizes .bytes) (room .bytes)) _ (second .1) in
     (leb-true _ _ (first .0), leb-true _ _ (second .0), leb-true _ _ (third .0), leb-true _ _ (third .1))
 
 -- ---- the parts
@@ -84,15 +84,15 @@ module _ (t : List ℕ) (shape : Shape) (s : Shaped t shape) where
   few-pages passed = rw pages-long at (run-passes (runAt t shape) passed .list .few)
 
   module _ (lent : Buffers) where
-    fits-are : fits (runAt t shape) lent ≡ roomFor (sizesAt shape) (length (lent .state)) (length (lent .pages)) (length (lent .bytes)) (length (lent .words))
+    fits-are : fits (runAt t shape) lent ≡ roomFor (sizesAt shape) (length (lent .state)) (sizesOf lent)
     unfolding fits roomFor runAt
     fits-are = rw (fields-long, pages-long, bytes-long, words-long)
 
-    pub too-long : roomFor (sizesAt shape) (length (lent .state)) (length (lent .pages)) (length (lent .bytes)) (length (lent .words)) ≡ false
+    pub too-long : roomFor (sizesAt shape) (length (lent .state)) (sizesOf lent) ≡ false
         → byTest Passed (runAt t shape) lent ≡ untouched (TooLong (sizesAt shape)) lent
     too-long none = rw (fits-are, none, sizes-are)
 
-    pub loaded : roomFor (sizesAt shape) (length (lent .state)) (length (lent .pages)) (length (lent .bytes)) (length (lent .words)) ≡ true
+    pub loaded : roomFor (sizesAt shape) (length (lent .state)) (sizesOf lent) ≡ true
         → (after : Buffers) → after ≡ filled (runAt t shape) lent → byTest Passed (runAt t shape) lent ≡ record { answer = Done (sizesAt shape); buffers = after }
     loaded room after after-is = rw (fits-are, room, sizes-are, after-is)
 

@@ -34,13 +34,13 @@ untouched answer lent = record { answer = answer; buffers = lent }
 abbrev pub sizesOf : Buffers → Sizes
 sizesOf run = record { pages = length (run .pages); bytes = length (run .bytes); words = length (run .words) }
 
+-- so much fits where there is room for so much
+abbrev pub within : Sizes → Sizes → Bool
+within sizes room = leb (sizes .pages) (room .pages) && (leb (sizes .bytes) (room .bytes) && leb (sizes .words) (room .words))
+
 -- every part fits its buffer
 unfoldable pub fits : Buffers → Buffers → Bool
-fits run lent =
-    leb (length (run .state)) (length (lent .state))
-    && (leb (length (run .pages)) (length (lent .pages))
-    && (leb (length (run .bytes)) (length (lent .bytes))
-    && leb (length (run .words)) (length (lent .words))))
+fits run lent = leb (length (run .state)) (length (lent .state)) && within (sizesOf run) (sizesOf lent)
 
 -- every part at the front of its buffer; what lies past it stays
 unfoldable pub filled : Buffers → Buffers → Buffers

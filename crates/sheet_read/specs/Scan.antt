@@ -16,6 +16,7 @@ use Rattle.sheet.specs.Sheets.{Saved, version, slots, lineCount, bytesOf}
 use Rattle.sheet.specs.Reading.{next, value, numbers, plainCount, pageCount, slotValue, pastSlot, pastSlots, pagesIn, sheet, noSheet, parsed}
 use Rattle.sheet.specs.declared.line.Line.{Line}
 use Rattle.sheet.specs.declared.line.Line.the-variants.{Sheet as SheetLine, State as StateLine, Page as PageLine, Word, Do}
+use Rattle.sheet_read.specs.Reads.{within}
 use Rattle.sheet_read.specs.declared.buffers.Sizes.{Sizes}
 use Rattle.sheet_read.specs.declared.stage.Stage.{Stage}
 use Rattle.sheet_read.specs.declared.scan.Shape.{Shape}
@@ -117,7 +118,6 @@ runAt t shape =
 abbrev pub sizesAt : Shape → Sizes
 sizesAt shape = record { pages = shape .pages .count; bytes = pageBytes * shape .pages .count; words = instructionWords * shape .steps .count }
 
--- a state and a run of these sizes fit buffers of these lengths
-unfoldable pub roomFor : Sizes → ℕ → ℕ → ℕ → ℕ → Bool
-roomFor sizes state pages bytes words =
-    leb fields state && (leb (sizes .pages) pages && (leb (sizes .bytes) bytes && leb (sizes .words) words))
+-- a state and a run of these sizes fit a buffer of this length and buffers of those sizes
+unfoldable pub roomFor : Sizes → ℕ → Sizes → Bool
+roomFor sizes state room = leb fields state && within sizes room

@@ -74,20 +74,20 @@ fn judge(text: &[u8], shape: Shape) -> Tested
     )
 }
 
-// Whether every part fits its buffer, of these lengths.
-fn fits(sizes: Sizes, state: usize, pages: usize, bytes: usize, words: usize) -> bool
-    ensures { λ r. ⌜ r ≡ roomFor sizes state pages bytes words ⌝ }
+// Whether every part fits its buffer: one of this length for the state, and of those sizes for the rest.
+fn fits(sizes: Sizes, state: usize, room: Sizes) -> bool
+    ensures { λ r. ⌜ r ≡ roomFor sizes state room ⌝ }
 {
     if state < FIELDS {
         return false;
     }
-    if pages < sizes.pages {
+    if room.pages < sizes.pages {
         return false;
     }
-    if bytes < sizes.bytes {
+    if room.bytes < sizes.bytes {
         return false;
     }
-    sizes.words <= words
+    sizes.words <= room.words
 }
 
 // Every part to the front of its buffer.
@@ -120,12 +120,19 @@ fn load(
     requires { ⌜ Shaped (now text) shape × (shape .pages .count ≤ pageLimit) ⌝ }
     ensures { λ r. ⌜ record { answer = r; buffers = record { state = now (state .exit); pages = now (pages .exit); bytes = now (bytes .exit); words = now (words .exit) } } ≡ byTest Passed (runAt (now (text .entry)) shape) (record { state = now (state .entry); pages = now (pages .entry); bytes = now (bytes .entry); words = now (words .entry) }) ⌝ }
 {
+    let held = PAGE_BYTES * shape.pages.count;
+    let listed = INSTRUCTION_WORDS * shape.steps.count;
     let sizes = Sizes {
         pages: shape.pages.count,
-        bytes: PAGE_BYTES * shape.pages.count,
-        words: INSTRUCTION_WORDS * shape.steps.count,
+        bytes: held,
+        words: listed,
     };
-    if !fits(sizes, state.len(), pages.len(), bytes.len(), words.len()) {
+    let room = Sizes {
+        pages: pages.len(),
+        bytes: bytes.len(),
+        words: words.len(),
+    };
+    if !fits(sizes, state.len(), room) {
         return Reading::TooLong(sizes);
     }
     fill_all(text, shape, state, pages, bytes, words);

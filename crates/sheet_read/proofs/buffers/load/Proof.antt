@@ -4,17 +4,18 @@ use mathlib.Core.Bool.{true}
 use lib.ListN.{length}
 use borrow.Author.Tests.{not-true, not-false}
 use Rattle.sheet.specs.Lent.{Buffers}
+use Rattle.sheet_read.specs.Reads.{sizesOf}
 use Rattle.sheet_read.specs.Scan.{sizesAt, roomFor}
 use Rattle.sheet_read.proofs.Saved.{room-parts, too-long, loaded}
 use borrow.Author.Needs.{needs}
 use Rattle.sheet_read.proofs.buffers.load.Statement.{statement}
 use Rattle.sheet_read.proofs.buffers.load.Tie as tie
 
-mul-fits : tie.Need-mul-fits
-mul-fits c = search needs
+mul-held : tie.Need-mul-held
+mul-held c = search needs
 
-mul-fits-2 : tie.Need-mul-fits-2
-mul-fits-2 c = search needs
+mul-listed : tie.Need-mul-listed
+mul-listed c = search needs
 
 fits-requires : tie.Need-fits-requires
 fits-requires c κs = search needs
@@ -31,15 +32,13 @@ returns c = sym (too-long _ _ (start (c .before) .pre .0) (lent (c .before)) (sy
 
 room : (c : tie.Else1) →
     let after-fits2 = c .before in
-    roomFor (sizesAt (start after-fits2 .args .shape)) (length (lent after-fits2 .state)) (length (lent after-fits2 .pages))
-    (length (lent after-fits2 .bytes)) (length (lent after-fits2 .words))
-    ≡ true
+    roomFor (sizesAt (start after-fits2 .args .shape)) (length (lent after-fits2 .state)) (sizesOf (lent after-fits2)) ≡ true
 room c = sym (c .before .fits2 .ensures) ∙ not-false _ (c .if1 .left)
 
 fill-all-requires : tie.Need-fill-all-requires
 fill-all-requires c κs =
     let else1 = c .before .before .before .before in
-    let parts = room-parts _ _ _ _ _ (room else1) in (start (else1 .before) .pre .0, parts .0, parts .1, parts .2, parts .3)
+    let parts = room-parts _ _ _ (room else1) in (start (else1 .before) .pre .0, parts .0, parts .1, parts .2, parts .3)
 
 same-length : tie.Need-same-length
 same-length c = search needs
@@ -63,8 +62,8 @@ pub load-spec : {M : Type 1} → statement M
 load-spec =
     tie.close
     (tie.spec
-    mul-fits
-    mul-fits-2
+    mul-held
+    mul-listed
     fits-requires
     returns
     fill-all-requires
