@@ -12,17 +12,16 @@ use Rattle.processor.specs.State.{inRange}
 use Rattle.processor.specs.Layout.{stateOf, wordsOf}
 use Rattle.state_words.specs.Formed.{formed, goodState}
 use Rattle.processor.specs.declared.state.State.{State}
-use Rattle.replay.specs.Run.{Run, inputOf, checkBy, replayed}
+use Rattle.replay.specs.Run.{Run, inputOf, replayed}
 use Rattle.replay.specs.declared.steps.Tested.the-variants.{Passed}
 use Rattle.claims.proofs.RangesProof.{run-stays-in-range}
-use Rattle.sheet.specs.Lent.{Buffers}
+use Rattle.sheet.specs.Lent.{Buffers, tested}
 use Rattle.sheet.specs.Sheets.{savedOf, text}
-use Rattle.sheet.proofs.TestedLaws.{passes, passed}
-use Rattle.sheet_write.specs.Laying.{textLength}
+use Rattle.sheet.proofs.TestedLaws.{run-passes, run-passed}
 use Rattle.sheet_write.specs.Writes.{Written, printed, writes}
 use Rattle.sheet_write.specs.declared.text.Writing.{Writing}
 use Rattle.sheet_write.specs.declared.text.Writing.the-variants.{Done, Refused, TooLong}
-use Rattle.sheet_write.proofs.Sizes.{nonzeros-most, text-size}
+use Rattle.sheet_claims.proofs.LentBuffersProof.{longest-text}
 use Rattle.outcome.specs.Outcome.{textLimit}
 
 -- ---- writing it
@@ -33,23 +32,12 @@ PutBy (Done long) whole after = (long ≤ length after) × (take long after ≡ 
 PutBy (Refused refusal) whole after = ⊥
 PutBy (TooLong long) whole after = ⊥
 
-module _ (state : State) (pages bytes words : List ℕ) (pass : checkBy pages (length bytes) (inRange state) (length words) ≡ Passed) where
-  abbrev left : Buffers
-  left = record { state = wordsOf state; pages = pages; bytes = bytes; words = words }
-
-  text-room : length (text (savedOf left)) ≤ textLimit
-  unfolding textLength
-  text-room =
-      let p = passes pages (length bytes) (inRange state) (length words) pass in
-      let size = text-size left refl (p .list .whole) in
-      let most = nonzeros-most (length bytes / 8) bytes in
-      omega arith
-
+module _ (left : Buffers) (pass : tested left ≡ Passed) where
   pub left-put : (out : List ℕ) → textLimit ≤ length out → (answer : Writing) (after : List ℕ) → record { answer = answer; text = after } ≡ writes left out → PutBy answer (text (savedOf left)) after
-  unfolding writes printed goodState formed stateOf
+  unfolding writes printed
   left-put out room answer after e =
       let whole : List ℕ = text (savedOf left) in
-      let fits : length whole ≤ length out = omega (arith, text-room) in
+      let fits : length whole ≤ length out = omega (arith, longest-text left pass) in
       let done : _≡_ {A = Written} (record { answer = answer; text = after }) (record { answer = Done (length whole); text = laid out 0 whole }) =
       e ∙ rw (pass, le-leb (length whole) (length out) fits)
       in
@@ -61,22 +49,25 @@ module _ (state : State) (pages bytes words : List ℕ) (pass : checkBy pages (l
 
 -- ---- what a run leaves
 
-pub left-passes : (start : State) (pages bytes words : List ℕ) → checkBy pages (length bytes) (inRange start) (length words) ≡ Passed
+-- the words of a state are good where it is in range
+pub good-words : (s : State) → goodState (wordsOf s) ≡ inRange s
+unfolding goodState formed stateOf
+good-words s = refl
+
+pub left-passes : (start : State) (pages bytes words : List ℕ) → tested (record { state = wordsOf start; pages = pages; bytes = bytes; words = words }) ≡ Passed
     → (r : Run) → r ≡ replayed (inputOf start pages bytes words)
     → (after rest : List ℕ) → length after ≡ length bytes → rest ≡ drop (4 * r .count) words
-    → checkBy pages (length after) (inRange (r .state)) (length rest) ≡ Passed
+    → tested (record { state = wordsOf (r .state); pages = pages; bytes = after; words = rest }) ≡ Passed
 left-passes start pages bytes words pass r e after rest same left =
-    let p = passes pages (length bytes) (inRange start) (length words) pass in
+    let p = run-passes (record { state = wordsOf start; pages = pages; bytes = bytes; words = words }) pass in
     let fewer = ap length left ∙ length-drop (4 * r .count) words in
-    rw same (
-    passed pages (length bytes) (inRange (r .state)) (length rest)
+    run-passed (record { state = wordsOf (r .state); pages = pages; bytes = after; words = rest })
     (record {
-      list = p .list;
-      state = rw e (run-stays-in-range (inputOf start pages bytes words) (p .state));
+      list = rw same (p .list);
+      state = good-words (r .state) ∙ rw e (run-stays-in-range (inputOf start pages bytes words) (sym (good-words start) ∙ p .state));
       whole = omega arith;
       few = omega arith;
     })
-    )
 
 -- past the end nothing is left
 pub nothing-left : (words count : ℕ) → words / 4 < count → (list : List ℕ) → length list ≡ words → drop words list ≡ drop (4 * count) list

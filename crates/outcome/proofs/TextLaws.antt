@@ -14,8 +14,11 @@ use Rattle.processor.specs.Layout.{fields, stateOf}
 use Rattle.state_words.specs.Formed.{formed, goodState}
 use Rattle.state_words.specs.declared.Formed.the-variants.{NoState}
 use Rattle.state_words.proofs.Laws.{good-none, good-whole, good-fields}
+use Rattle.processor.specs.Layout.{fields, stateOf, wordsOf, formed, goodState}
+use Rattle.processor.specs.declared.layout.Formed.the-variants.{NoState}
+use Rattle.processor.proofs.Layouts.{good-none, good-whole, good-fields}
 use Rattle.instructions.specs.Instruction.{instructionWords}
-use Rattle.replay.specs.Run.{instructionLimit, inputOf, checkBy}
+use Rattle.replay.specs.Run.{instructionLimit, inputOf}
 use Rattle.replay.specs.declared.steps.Tested.{Tested}
 use Rattle.replay.specs.declared.steps.Tested.the-variants.{Passed, Failed}
 use Rattle.sheet.specs.Lent.{Buffers, tested}
@@ -27,6 +30,7 @@ use Rattle.sheet_read.specs.declared.buffers.Sizes.{Sizes}
 use Rattle.sheet_read.specs.declared.buffers.Reading.{Reading}
 use Rattle.sheet_read.specs.declared.buffers.Reading.the-variants.{Done, NoSheet, Refused, TooLong}
 use Rattle.outcome.specs.Outcome.{refusedLine, answered, textLimit, outcome}
+use Rattle.outcome.proofs.RunLaws.{good-words}
 
 -- room for a state, the pages with their bytes, and the instructions
 pub record Roomy (lent : Buffers) : Type 0 where
@@ -41,7 +45,7 @@ pub record Ready (t : List ℕ) (sizes : Sizes) (b : Buffers) : Type 0 where
   pub bytes-in : sizes .bytes ≤ length (b .bytes)
   pub words-in : sizes .words ≤ length (b .words)
   pub good : goodState (b .state) ≡ true
-  pub pass : checkBy (take (sizes .pages) (b .pages)) (length (take (sizes .bytes) (b .bytes))) (inRange (stateOf (b .state))) (length (take (sizes .words) (b .words))) ≡ Passed
+  pub pass : tested (record { state = wordsOf (stateOf (b .state)); pages = take (sizes .pages) (b .pages); bytes = take (sizes .bytes) (b .bytes); words = take (sizes .words) (b .words) }) ≡ Passed
   pub same : answered (inputOf (stateOf (b .state)) (take (sizes .pages) (b .pages)) (take (sizes .bytes) (b .bytes)) (take (sizes .words) (b .words))) ≡ outcome t
 
 -- what a reader's answer says of the outcome
@@ -74,7 +78,7 @@ module _ (t : List ℕ) (short : length t ≤ textLimit) (lent : Buffers) (roomy
             bytes-in = rw (length-laid (lent .bytes) 0 (run .bytes) (omega arith)) bytes-fit;
             words-in = rw (length-laid (lent .words) 0 (run .words) (omega arith)) words-fit;
             good = rw state (p .state);
-            pass = rw (state, pages, bytes, words, ← good-whole (run .state) ten) q;
+            pass = rw (state, pages, bytes, words, good-words (stateOf (run .state)), ← good-whole (run .state) ten) q;
             same = rw (state, pages, bytes, words, le-ltb textLimit (length t) short, e, q);
           },
         )

@@ -16,6 +16,7 @@ use Rattle.texts.specs.Fields.{lineOf}
 use Rattle.sheet.specs.Lent.{Buffers, tested}
 use Rattle.sheet.specs.Sheets.{savedOf, buffersOf, text}
 use Rattle.sheet.specs.Reading.{Parsed, sheet, noSheet, parsed}
+use Rattle.sheet_claims.specs.LentBuffers.{mostText}
 
 -- ---- lines that no sheet has, in the form of its lines
 
@@ -63,9 +64,9 @@ abbrev pub byText : Parsed → List ℕ
 byText (sheet s) = byTest (tested (buffersOf s)) (buffersOf s)
 byText (noSheet row) = refusedLine sheetNumber row
 
--- the longest text that is read
+-- the longest text that is read: the sheet of every run that is not refused has room in it
 abbrev pub textLimit : ℕ
-textLimit = 413250
+textLimit = mostText
 
 -- what is written: a longer text is refusal 8, whatever it holds
 unfoldable pub outcome : List ℕ → List ℕ

@@ -4,10 +4,10 @@ ghost use mathlib.Core.Path.{_≡_};
 ghost use mathlib.Core.List.{List};
 ghost use Prim.Native.Nat.{ℕ, _*_, _≤_};
 ghost use lib.ListN.{length, take, drop};
-ghost use Rattle.processor.specs.State.{inRange};
 ghost use Rattle.processor.specs.Layout.{wordsOf};
-ghost use Rattle.replay.specs.Run.{inputOf, checkBy};
+ghost use Rattle.replay.specs.Run.{inputOf};
 ghost use Rattle.replay.specs.declared.steps.Tested.the-variants.{Passed};
+ghost use Rattle.sheet.specs.Lent.{tested};
 ghost use Rattle.sheet.specs.Sheets.{savedOf, text as textOf};
 ghost use Rattle.outcome.specs.Outcome.{answerLine, refusedLine, answered, textLimit, outcome as outcomeOf};
 ghost use Rattle.outcome.specs.Fronts.{Holds};
@@ -76,7 +76,7 @@ fn put_answer(count: usize, answer: Answer, line: &mut [u8]) -> usize
 
 // The sheet of a run that is not refused, and its length.
 fn put_left(state: State, pages: &[u64], bytes: &[u8], words: &[u64], sheet: &mut [u8]) -> usize
-    requires { ⌜ checkBy (now pages) (length (now bytes)) (inRange state) (length (now words)) ≡ Passed ⌝ }
+    requires { ⌜ tested (record { state = wordsOf state; pages = now pages; bytes = now bytes; words = now words }) ≡ Passed ⌝ }
     requires { ⌜ textLimit ≤ length (now sheet) ⌝ }
     ensures fits { λ r. ⌜ r ≤ length (now (sheet .exit)) ⌝ }
     ensures text { λ r. ⌜ take r (now (sheet .exit)) ≡ textOf (savedOf (record { state = wordsOf state; pages = now (pages .entry); bytes = now (bytes .entry); words = now (words .entry) })) ⌝ }
@@ -109,7 +109,7 @@ fn run(
     line: &mut [u8],
     sheet: &mut [u8],
 ) -> Fronts
-    requires { ⌜ checkBy (now pages) (length (now bytes)) (inRange start) (length (now words)) ≡ Passed ⌝ }
+    requires { ⌜ tested (record { state = wordsOf start; pages = now pages; bytes = now bytes; words = now words }) ≡ Passed ⌝ }
     requires { ⌜ (97 ≤ length (now line)) × (textLimit ≤ length (now sheet)) ⌝ }
     ensures { λ r. ⌜ Holds (answered (inputOf start (now (pages .entry)) (now (bytes .entry)) (now (words .entry)))) (now (line .exit)) (now (sheet .exit)) r ⌝ }
 {

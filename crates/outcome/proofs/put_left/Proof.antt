@@ -1,19 +1,21 @@
 -- `put_left` meets its contract: of the writer's answers only `Done` can be. Assumes nothing.
 use borrow.Author.Needs.{needs}
 use Rattle.processor.specs.Layout.{wordsOf}
+use Rattle.sheet.specs.Lent.{Buffers}
 use Rattle.sheet.specs.Sheets.{savedOf, text}
 use Rattle.outcome.proofs.RunLaws.{PutBy, left-put}
 use Rattle.outcome.proofs.put_left.Statement.{statement}
 use Rattle.outcome.proofs.put_left.Tie as tie
 
+abbrev left : tie.Start → Buffers
+left c = record { state = wordsOf (c .args .state); pages = c .args .pages .now; bytes = c .args .bytes .now; words = c .args .words .now }
+
 -- what the writer's answer says
-put : (c : tie.After-write) → let start = c .before .before .before .before .before .before .before .before in
-    PutBy (c .write .result) (text (savedOf (record { state = wordsOf (start .args .state); pages = start .args .pages .now; bytes = start .args .bytes .now; words = start .args .words .now })))
-    (c .write .last .1 .1 .1 .1 .0)
+put : (c : tie.After-write) → PutBy (c .write .result) (text (savedOf (left (c .before .before .before .before .before .before .before .before)))) (c .write .last .1 .1 .1 .1 .0)
 put c =
     let after-words = c .before .before .before in
     let start = after-words .before .before .before .before .before in
-    left-put _ _ _ _ (start .pre .0) _ (start .pre .1) _ _ (rw (after-words .words .ensures) at (c .write .ensures))
+    left-put (left start) (start .pre .0) _ (start .pre .1) _ _ (rw (after-words .words .ensures) at (c .write .ensures))
 
 words-requires : tie.Need-words-requires
 words-requires c κs = search needs
