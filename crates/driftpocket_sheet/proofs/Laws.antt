@@ -21,7 +21,7 @@ use Rattle.sheet_read.specs.declared.buffers.Reading.{Reading}
 use Rattle.sheet_read.specs.declared.buffers.Reading.the-variants.{Done as ReadDone, NoSheet, Refused as ReadRefused, TooLong as ReadTooLong}
 use Rattle.sheet_write.specs.Writes.{writeNumber, Written, byTest as writeByTest, printed, writes}
 use Rattle.sheet_write.specs.declared.text.Writing.{Writing}
-use Rattle.driftpocket_sheet.specs.Crossing.{orNoRoom, readReport, writeReport, readWords, writeWords, ReadCrossing, crossedRead, WriteCrossing, crossedWrite}
+use Rattle.driftpocket_sheet.specs.Crossing.{orNoRoom, nowhere, readReport, writeReport, readWords, writeWords, ReadCrossing, crossedRead, WriteCrossing, crossedWrite}
 
 -- what holds of both ways holds
 either : {A : Type 0} (p : Bool) (a b : A) (P : A → Type 0) → P a → P b → P (cond p a b)
@@ -59,10 +59,10 @@ any-text run out other = tested-so (tested run)
 -- ---- a report that is too short
 
 pub read-short : (text : List ℕ) (lent : Buffers) (report : List ℕ) → length report < readWords
-    → record { number = orNoRoom (readNumber (reads text (record { state = []; pages = []; bytes = []; words = [] }) .answer)); buffers = lent; report = report }
+    → record { number = orNoRoom (readNumber (reads text nowhere .answer)); buffers = lent; report = report }
     ≡ crossedRead text lent report
 unfolding crossedRead
-read-short text lent report short = rw (lt-ltb _ _ short) (ap returned (any-buffers text (record { state = []; pages = []; bytes = []; words = [] }) lent))
+read-short text lent report short = rw (lt-ltb _ _ short) (ap returned (any-buffers text nowhere lent))
   where
     returned : ℕ → ReadCrossing
     returned number = record { number = number; buffers = lent; report = report }

@@ -54,6 +54,10 @@ writeWords = 2
 
 -- ---- the calls
 
+-- buffers without room
+abbrev pub nowhere : Buffers
+nowhere = record { state = []; pages = []; bytes = []; words = [] }
+
 -- what is returned, and what the buffers and the report hold
 pub record ReadCrossing : Type 0 where
   pub number : ℕ

@@ -1,8 +1,8 @@
 // The C interface of sheets: read one into lent buffers, write one into a lent text. Lengths travel with every buffer.
 ghost use mathlib.Core.Path.{_≡_};
-ghost use mathlib.Core.List.{[], _∷_};
+ghost use mathlib.Core.List.{_∷_};
 ghost use Rattle.sheet_read.specs.Reads.{reads};
-ghost use Rattle.driftpocket_sheet.specs.Crossing.{orNoRoom, sizeWords, readReport, writeReport, crossedRead, crossedWrite};
+ghost use Rattle.driftpocket_sheet.specs.Crossing.{orNoRoom, nowhere, sizeWords, readReport, writeReport, crossedRead, crossedWrite};
 use answers::NO_ROOM;
 use answers::NO_SHEET;
 use numbers::copy_words;
@@ -55,7 +55,7 @@ fn write_report(answer: Writing) -> [u64; WRITE_REPORT]
 
 // The report of a read into empty buffers.
 fn read_nowhere(text: &[u8]) -> [u64; READ_REPORT]
-    ensures { λ r. ⌜ r ≡ readReport (reads (now (text .entry)) (record { state = []; pages = []; bytes = []; words = [] }) .answer) ⌝ }
+    ensures { λ r. ⌜ r ≡ readReport (reads (now (text .entry)) nowhere .answer) ⌝ }
 {
     let mut state: [u64; 0] = [];
     let mut pages: [u64; 0] = [];
