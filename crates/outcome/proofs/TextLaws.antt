@@ -6,6 +6,7 @@ use mathlib.Core.List.{List}
 use native.Mathlib.Omega.{arith}
 use lib.ListN.{length, take}
 use borrow.Author.Tests.{le-leb, le-ltb}
+use Rattle.numbers.specs.Buffers.{laid}
 use Rattle.numbers.proofs.Laws.{laid-front, laid-whole, length-laid}
 use Rattle.pages.specs.Pages.{pageLimit, pageBytes}
 use Rattle.answers.specs.Answer.{refusalNumber, sheetNumber}
@@ -55,6 +56,15 @@ Told t (NoSheet row) b = refusedLine sheetNumber row ≡ outcome t
 Told t (Refused refusal) b = refusedLine (refusalNumber refusal) 0 ≡ outcome t
 Told t (TooLong sizes) b = ⊥
 
+-- a part that fits its buffer, and is laid to its front
+record Front (lent part : List ℕ) : Type 0 where
+  fits : length part ≤ length lent
+  inside : length part ≤ length (laid lent 0 part)
+  same : take (length part) (laid lent 0 part) ≡ part
+
+front : (lent part : List ℕ) → length part ≤ length lent → Front lent part
+front lent part room = record { fits = room; inside = rw (length-laid lent 0 part (omega arith)) room; same = laid-front lent part (length part) refl }
+
 module _ (t : List ℕ) (short : length t ≤ textLimit) (lent : Buffers) (roomy : Roomy lent) where
   module _ (s : Saved) (e : parsed t ≡ sheet s) (q : tested (buffersOf s) ≡ Passed) where
     abbrev run : Buffers
@@ -65,21 +75,18 @@ module _ (t : List ℕ) (short : length t ≤ textLimit) (lent : Buffers) (roomy
     ready =
         let p = run-passes run q in
         let ten = good-fields (run .state) (p .state) in
-        let pages-fit : length (run .pages) ≤ length (lent .pages) = omega arith in
-        let bytes-fit : length (run .bytes) ≤ length (lent .bytes) = omega arith in
-        let words-fit : length (run .words) ≤ length (lent .words) = omega arith in
         let state = laid-whole (run .state) (lent .state) (roomy .state ∙ sym ten) in
-        let pages = laid-front (lent .pages) (run .pages) (length (run .pages)) refl in
-        let bytes = laid-front (lent .bytes) (run .bytes) (length (run .bytes)) refl in
-        let words = laid-front (lent .words) (run .words) (length (run .words)) refl in (
-          rw (le-leb (length (run .state)) (length (lent .state)) (omega arith), le-leb _ _ pages-fit, le-leb _ _ bytes-fit, le-leb _ _ words-fit),
+        let pages = front (lent .pages) (run .pages) (omega arith) in
+        let bytes = front (lent .bytes) (run .bytes) (omega arith) in
+        let words = front (lent .words) (run .words) (omega arith) in (
+          rw (le-leb (length (run .state)) (length (lent .state)) (omega arith), le-leb _ _ (pages .fits), le-leb _ _ (bytes .fits), le-leb _ _ (words .fits)),
           record {
-            pages-in = rw (length-laid (lent .pages) 0 (run .pages) (omega arith)) pages-fit;
-            bytes-in = rw (length-laid (lent .bytes) 0 (run .bytes) (omega arith)) bytes-fit;
-            words-in = rw (length-laid (lent .words) 0 (run .words) (omega arith)) words-fit;
+            pages-in = pages .inside;
+            bytes-in = bytes .inside;
+            words-in = words .inside;
             good = rw state (p .state);
-            pass = rw (state, pages, bytes, words, good-words (stateOf (run .state)), ← good-whole (run .state) ten) q;
-            same = rw (state, pages, bytes, words, le-ltb textLimit (length t) short, e, q);
+            pass = rw (state, pages .same, bytes .same, words .same, good-words (stateOf (run .state)), ← good-whole (run .state) ten) q;
+            same = rw (state, pages .same, bytes .same, words .same, le-ltb textLimit (length t) short, e, q);
           },
         )
 

@@ -1,44 +1,47 @@
 -- `outcome` meets its contract, by what the reader answers. Assumes nothing.
-use mathlib.Core.Path.{_≡_, refl, sym, _∙_}
+use mathlib.Core.Path.{_≡_, refl, sym, _∙_, subst}
 use lib.Seq.{length-take-le}
 use borrow.Author.Needs.{needs}
 use borrow.Author.Tests.{lt-ltb}
 use Rattle.processor.specs.Layout.{stateOf}
 use Rattle.state_words.proofs.Laws.{formed-whole}
+use Rattle.processor.proofs.Layouts.{formed-whole}
+use Rattle.sheet.specs.Lent.{Buffers}
+use Rattle.sheet_read.specs.declared.buffers.Reading.{Reading}
 use Rattle.outcome.specs.Outcome.{outcome}
 use Rattle.outcome.proofs.TextLaws.{Ready, Told, told, no-state-never}
 use Rattle.outcome.proofs.outcome.Statement.{statement}
 use Rattle.outcome.proofs.outcome.Tie as tie
 
+abbrev start-of : tie.After-read → tie.Start
+start-of c = c .before .before .before .before .before .before .before .before .before .before .before
+
+-- the buffers, as the reader left them
+abbrev held : tie.After-read → Buffers
+held c = record { state = c .read .last .1 .0; pages = c .read .last .1 .1 .0; bytes = c .read .last .1 .1 .1 .0; words = c .read .last .1 .1 .1 .1 .0 }
+
 -- what the reader's answer says
-answer : (c : tie.After-read)
-    → Told (c .before .before .before .before .before .before .before .before .before .before .before .args .text .now) (c .read .result)
-    (record { state = c .read .last .1 .0; pages = c .read .last .1 .1 .0; bytes = c .read .last .1 .1 .1 .0; words = c .read .last .1 .1 .1 .1 .0 })
-answer c =
+answer : (c : tie.After-read) (r : Reading) → c .read .result ≡ r → Told (start-of c .args .text .now) r (held c)
+answer c r given =
     let after-word-buffer = c .before .before .before .before .before in
     let after-byte-buffer = after-word-buffer .before in
     let else1 = after-byte-buffer .before in
-    told _ (else1 .if1 .left) _ (record {
+    subst (λ (q : Reading). Told (start-of c .args .text .now) q (held c)) given (told _ (else1 .if1 .left) _ (record {
       state = refl;
       pages = refl;
       bytes = sym (after-byte-buffer .byte-buffer .ensures);
       words = sym (after-word-buffer .word-buffer .ensures);
-    }) _ (c .read .ensures)
+    }) _ (c .read .ensures))
 
 -- where it was read
-ready : (c : tie.After-sizes)
-    → let after-read = c .before .before .before .before .before .before in
-    Ready (after-read .before .before .before .before .before .before .before .before .before .before .before .args .text .now) (c .sizes .given .0 .0)
-    (record {
-      state = after-read .read .last .1 .0;
-      pages = after-read .read .last .1 .1 .0;
-      bytes = after-read .read .last .1 .1 .1 .0;
-      words = after-read .read .last .1 .1 .1 .1 .0;
-    })
-ready c = rw (c .sizes .given .1) at (answer (c .before .before .before .before .before .before))
+abbrev read-of : tie.After-sizes → tie.After-read
+read-of c = c .before .before .before .before .before .before
+
+ready : (c : tie.After-sizes) → Ready (start-of (read-of c) .args .text .now) (c .sizes .given .0 .0) (held (read-of c))
+ready c = answer (read-of c) _ (c .sizes .given .1)
 
 -- the state of the words that were read
-whole : (c : tie.After-start) → c .start .given .0 .0 ≡ stateOf (c .before .before .before .before .before .before .before .before .before .before .before .read .last .1 .0)
+whole : (c : tie.After-start) → c .start .given .0 .0 ≡ stateOf (held (read-of (c .before .before .before .before .before)) .state)
 whole c = let after-state-of = c .before .before in formed-whole _ _ (sym (after-state-of .state-of .ensures) ∙ c .start .given .1) .1
 
 refuse-requires : tie.Need-refuse-requires
@@ -128,9 +131,7 @@ run-requires : tie.Need-run-requires
 run-requires c κs =
     let after-start = c .before .before .before .before .before .before in
     let after-sizes = after-start .before .before .before .before .before in
-    let after-read = after-sizes .before .before .before .before .before .before in
-    let start = after-read .before .before .before .before .before .before .before .before .before .before .before in
-    (rw (whole after-start) (ready after-sizes .pass), start .pre)
+    (rw (whole after-start) (ready after-sizes .pass), start-of (read-of after-sizes) .pre)
 
 enum-known-row : tie.Need-enum-known-row
 enum-known-row c = search needs
@@ -173,7 +174,7 @@ returns-4 : tie.Need-returns-4
 returns-4 c =
     let after-refuse3 = c .before .before in
     let after-row = after-refuse3 .before .before .before in
-    rw (← (rw (after-row .row .given .1) at (answer (after-row .before .before .before .before .before .before)))) (after-refuse3 .refuse3 .ensures _)
+    rw (← answer (after-row .before .before .before .before .before .before) _ (after-row .row .given .1)) (after-refuse3 .refuse3 .ensures _)
 
 same-length-6 : tie.Need-same-length-6
 same-length-6 c = search needs
@@ -183,7 +184,7 @@ returns-5 c =
     let after-refuse4 = c .before .before in
     let after-number2 = after-refuse4 .before .before in
     let after-refusal = after-number2 .before .before in
-    let same = rw (after-refusal .refusal .given .1) at (answer (after-refusal .before .before .before .before .before .before)) in
+    let same = answer (after-refusal .before .before .before .before .before .before) _ (after-refusal .refusal .given .1) in
     rw (← same, ← after-number2 .number2 .ensures) (after-refuse4 .refuse4 .ensures _)
 
 same-length-7 : tie.Need-same-length-7
@@ -192,7 +193,7 @@ same-length-7 c = search needs
 returns-6 : tie.Need-returns-6
 returns-6 c =
     let after-sizes2 = c .before .before .before .before .before in
-    absurd (rw (after-sizes2 .sizes2 .given .1) at (answer (after-sizes2 .before .before .before .before .before .before)))
+    absurd (answer (after-sizes2 .before .before .before .before .before .before) _ (after-sizes2 .sizes2 .given .1))
 
 pub outcome-spec : {M : Type 1} → statement M
 outcome-spec =
