@@ -17,7 +17,7 @@ use Rattle.replay.specs.declared.steps.Tested.the-variants.{Passed}
 use Rattle.claims.proofs.RangesProof.{run-stays-in-range}
 use Rattle.sheet.specs.Lent.{Buffers, tested}
 use Rattle.sheet.specs.Sheets.{savedOf, text}
-use Rattle.sheet.proofs.TestedLaws.{run-passes, run-passed}
+use Rattle.sheet.proofs.TestedLaws.{passes, passed}
 use Rattle.sheet_write.specs.Writes.{Written, printed, writes}
 use Rattle.sheet_write.specs.declared.text.Writing.{Writing}
 use Rattle.sheet_write.specs.declared.text.Writing.the-variants.{Done, Refused, TooLong}
@@ -59,9 +59,9 @@ pub left-passes : (start : State) (pages bytes words : List ℕ) → tested (rec
     → (after rest : List ℕ) → length after ≡ length bytes → rest ≡ drop (4 * r .count) words
     → tested (record { state = wordsOf (r .state); pages = pages; bytes = after; words = rest }) ≡ Passed
 left-passes start pages bytes words pass r e after rest same left =
-    let p = run-passes (record { state = wordsOf start; pages = pages; bytes = bytes; words = words }) pass in
+    let p = passes (record { state = wordsOf start; pages = pages; bytes = bytes; words = words }) pass in
     let fewer = ap length left ∙ length-drop (4 * r .count) words in
-    run-passed (record { state = wordsOf (r .state); pages = pages; bytes = after; words = rest })
+    passed (record { state = wordsOf (r .state); pages = pages; bytes = after; words = rest })
     (record {
       list = rw same (p .list);
       state = good-words (r .state) ∙ rw e (run-stays-in-range (inputOf start pages bytes words) (sym (good-words start) ∙ p .state));

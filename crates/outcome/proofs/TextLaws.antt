@@ -25,7 +25,7 @@ use Rattle.replay.specs.declared.steps.Tested.the-variants.{Passed, Failed}
 use Rattle.sheet.specs.Lent.{Buffers, tested}
 use Rattle.sheet.specs.Sheets.{Saved, buffersOf}
 use Rattle.sheet.specs.Reading.{Parsed, sheet, noSheet, parsed}
-use Rattle.sheet.proofs.TestedLaws.{run-passes}
+use Rattle.sheet.proofs.TestedLaws.{passes}
 use Rattle.sheet_read.specs.Reads.{Read, sizesOf, fits, filled, byTest as readByTest, byText as readByText, reads}
 use Rattle.sheet_read.specs.declared.buffers.Sizes.{Sizes}
 use Rattle.sheet_read.specs.declared.buffers.Reading.{Reading}
@@ -73,7 +73,7 @@ module _ (t : List ℕ) (short : length t ≤ textLimit) (lent : Buffers) (roomy
     ready : (fits run lent ≡ true) × Ready t (sizesOf run) (filled run lent)
     unfolding fits filled outcome
     ready =
-        let p = run-passes run q in
+        let p = passes run q in
         let ten = good-fields (run .state) (p .state) in
         let state = laid-whole (run .state) (lent .state) (roomy .state ∙ sym ten) in
         let pages = front (lent .pages) (run .pages) (omega arith) in

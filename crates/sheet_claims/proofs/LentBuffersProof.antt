@@ -20,7 +20,7 @@ use Rattle.numbers.proofs.Laws.{laid-front}
 use Rattle.sheet.specs.Lent.{Buffers, tested}
 use Rattle.sheet.specs.Sheets.{Page, Saved, Sheeted, WholePages, pagesOf, ascended, savedOf, entriesOf, bytesOf, buffersOf, text}
 use Rattle.sheet.specs.Reading.{Parsed, sheet, noSheet, parsed}
-use Rattle.sheet.proofs.TestedLaws.{run-passes, run-passed}
+use Rattle.sheet.proofs.TestedLaws.{passes, passed}
 use Rattle.sheet_read.specs.Reads.{readNumber, Read, byTest, byText, fits, filled, sizesOf, reads}
 use Rattle.sheet_read.specs.declared.buffers.Sizes.{Sizes}
 use Rattle.sheet_read.specs.declared.buffers.Reading.the-variants.{Done as ReadDone, TooLong as ReadTooLong}
@@ -123,7 +123,7 @@ read-untouched t lent e = text-untouched (parsed t) lent e
 pub saved-sheeted : SavedSheeted
 unfolding savedOf
 saved-sheeted run typed e =
-    let has = run-passes run e in
+    let has = passes run e in
     let valid = list-valid (run .pages) (length (run .bytes)) (has .list) in
     record {
       fields = good-fields (run .state) (has .state);
@@ -137,7 +137,7 @@ saved-sheeted run typed e =
 pub longest-text : LongestText
 unfolding textLength
 longest-text run e =
-    let has = run-passes run e in
+    let has = passes run e in
     let whole = has .list .whole in
     let few = has .list .few in
     let steps = has .few in
@@ -148,9 +148,9 @@ longest-text run e =
 again : (run : Buffers) → tested run ≡ Passed → tested (buffersOf (savedOf run)) ≡ Passed
 unfolding savedOf
 again run e =
-    let has = run-passes run e in
+    let has = passes run e in
     let valid = ascended-valid (run .pages) (run .bytes) (list-valid (run .pages) (length (run .bytes)) (has .list)) in
-    run-passed (buffersOf (savedOf run)) (record { list = valid-list _ _ valid; state = has .state; whole = has .whole; few = has .few })
+    passed (buffersOf (savedOf run)) (record { list = valid-list _ _ valid; state = has .state; whole = has .whole; few = has .few })
 
 -- a write that is done was of a run that passed its tests, and left its text, which is read back
 record Back (run : Buffers) (out : List ℕ) (long : ℕ) : Type 0 where

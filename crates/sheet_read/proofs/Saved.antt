@@ -25,7 +25,7 @@ use Rattle.sheet.specs.Reading.{Parsed, noSheet, pagesIn, parsed}
 use Rattle.sheet.specs.declared.line.Line.{Line}
 use Rattle.sheet.specs.declared.line.Line.the-variants.{State, Page, Do}
 use Rattle.texts.proofs.DigitLaws.{both}
-use Rattle.sheet.proofs.TestedLaws.{run-passes, too-many}
+use Rattle.sheet.proofs.TestedLaws.{passes, too-many}
 use Rattle.sheet_read.specs.Reads.{untouched, sizesOf, fits, filled, byTest, byText, reads}
 use Rattle.sheet_read.specs.Scan.{Stands, numbersIn, savedAt, Shaped, runAt, sizesAt, roomFor}
 use Rattle.sheet_read.specs.declared.buffers.Sizes.{Sizes}
@@ -77,11 +77,12 @@ module _ (t : List ℕ) (shape : Shape) (s : Shaped t shape) where
   tested-is = rw (bytes-long, words-long)
 
   pub too-many-pages : pageLimit < shape .pages .count → tested (runAt t shape) ≡ Failed Length
-  too-many-pages many = tested-is ∙ too-many _ _ _ _ (rw pages-long many)
+  unfolding runAt
+  too-many-pages many = too-many (runAt t shape) (rw pages-long many)
 
   pub few-pages : tested (runAt t shape) ≡ Passed → shape .pages .count ≤ pageLimit
   unfolding runAt
-  few-pages passed = rw pages-long at (run-passes (runAt t shape) passed .list .few)
+  few-pages passed = rw pages-long at (passes (runAt t shape) passed .list .few)
 
   module _ (lent : Buffers) where
     fits-are : fits (runAt t shape) lent ≡ roomFor (sizesAt shape) (length (lent .state)) (sizesOf lent)

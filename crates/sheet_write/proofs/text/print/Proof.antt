@@ -9,7 +9,7 @@ use Rattle.processor.proofs.Layouts.{good-fields}
 use Rattle.instructions.specs.Instruction.{instructionWords}
 use Rattle.sheet.specs.Lent.{Buffers}
 use Rattle.sheet.specs.Sheets.{text, savedOf}
-use Rattle.sheet.proofs.TestedLaws.{RunPasses, run-passes}
+use Rattle.sheet.proofs.TestedLaws.{Passes, passes}
 use Rattle.sheet_write.specs.Laying.{textLength}
 use Rattle.sheet_write.proofs.Answers.{too-long, done}
 use Rattle.sheet_write.proofs.Apart.{lent}
@@ -25,8 +25,8 @@ way-text-length c = record { start = c .before .before .before .before .before .
 abbrev run : tie.Start → Buffers
 run c = record { state = c .args .state .now; pages = c .args .pages .now; bytes = c .args .bytes .now; words = c .args .words .now }
 
-tested : (c : tie.Start) → RunPasses (run c)
-tested c = run-passes (run c) (c .pre)
+tested : (c : tie.Start) → Passes (run c)
+tested c = passes (run c) (c .pre)
 
 -- the count is the text's length
 long : (c : tie.After-text-length) → c .text-length .result ≡ length (text (savedOf (run (way-text-length c .start))))
