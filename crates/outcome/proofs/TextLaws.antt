@@ -11,13 +11,10 @@ use Rattle.numbers.proofs.Laws.{laid-front, laid-whole, length-laid}
 use Rattle.pages.specs.Pages.{pageLimit, pageBytes}
 use Rattle.answers.specs.Answer.{refusalNumber, sheetNumber}
 use Rattle.processor.specs.State.{inRange}
-use Rattle.processor.specs.Layout.{fields, stateOf}
+use Rattle.processor.specs.Layout.{fields, stateOf, wordsOf}
 use Rattle.state_words.specs.Formed.{formed, goodState}
 use Rattle.state_words.specs.declared.Formed.the-variants.{NoState}
 use Rattle.state_words.proofs.Laws.{good-none, good-whole, good-fields}
-use Rattle.processor.specs.Layout.{fields, stateOf, wordsOf, formed, goodState}
-use Rattle.processor.specs.declared.layout.Formed.the-variants.{NoState}
-use Rattle.processor.proofs.Layouts.{good-none, good-whole, good-fields}
 use Rattle.instructions.specs.Instruction.{instructionWords}
 use Rattle.replay.specs.Run.{instructionLimit, inputOf}
 use Rattle.replay.specs.declared.steps.Tested.{Tested}

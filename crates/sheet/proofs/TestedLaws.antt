@@ -12,7 +12,7 @@ use Rattle.pages.specs.declared.pages.Listing.the-variants.{Valid, BadLength, B
 use Rattle.pages.proofs.Laws.{ValidList, valid-list, list-valid, too-many-entries}
 use Rattle.answers.specs.declared.answer.Refusal.{Refusal}
 use Rattle.answers.specs.declared.answer.Refusal.the-variants.{Length}
-use Rattle.processor.specs.Layout.{goodState}
+use Rattle.state_words.specs.Formed.{goodState}
 use Rattle.replay.specs.Run.{instructionLimit, badWords, afterPages, checkBy}
 use Rattle.replay.specs.declared.steps.Tested.{Tested}
 use Rattle.replay.specs.declared.steps.Tested.the-variants.{Passed, Failed}

@@ -12,7 +12,6 @@ use Rattle.memory.specs.Extends.{HoldsPages}
 use Rattle.processor.specs.Layout.{fields}
 use Rattle.state_words.specs.Formed.{goodState}
 use Rattle.state_words.proofs.Laws.{good-fields}
-use Rattle.processor.proofs.Layouts.{good-fields}
 use Rattle.replay.specs.declared.steps.Tested.{Tested}
 use Rattle.replay.specs.declared.steps.Tested.the-variants.{Passed, Failed}
 use Rattle.numbers.specs.Buffers.{laid}

@@ -9,13 +9,9 @@ use lib.Seq.{take-append-seam, drop-append-seam}
 use borrow.Author.Tests.{le-leb}
 use Rattle.texts.specs.Digits.{Below}
 use Rattle.sheet.specs.Lines.{fieldCount, line, isLine}
-use Rattle.sheet.specs.Sheets.{Page, Saved, Sheeted, Ascending, WholePages, pagesWords, pageLines, plainLines, entriesOf}
+use Rattle.sheet.specs.Sheets.{Page, Saved, Sheeted, Ascending, WholePages, pagesWords, pageLines, plainLines, entriesOf, allPlain}
 use Rattle.order.specs.Order.{pageNumber}
 use Rattle.sheet.specs.Reading.{next, isWord, pageCount, numbers, plainCount, stages}
-use Rattle.sheet.specs.Lines.{line, isLine}
-use Rattle.sheet.specs.Sheets.{Page, Saved, Sheeted, Ascending, WholePages, pagesWords, pageLines, allPlain, entriesOf}
-use Rattle.pages.specs.Pages.{pageNumber}
-use Rattle.sheet.specs.Reading.{next, pageCount, numbers, stages}
 use Rattle.sheet.specs.declared.line.Line.{Line}
 use Rattle.sheet.specs.declared.line.Line.the-variants.{Page as PageLine, Word, Do}
 use Rattle.sheet.proofs.LineLaws.{is-line-line, values-line}

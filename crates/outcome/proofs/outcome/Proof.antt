@@ -5,7 +5,6 @@ use borrow.Author.Needs.{needs}
 use borrow.Author.Tests.{lt-ltb}
 use Rattle.processor.specs.Layout.{stateOf}
 use Rattle.state_words.proofs.Laws.{formed-whole}
-use Rattle.processor.proofs.Layouts.{formed-whole}
 use Rattle.sheet.specs.Lent.{Buffers}
 use Rattle.sheet_read.specs.declared.buffers.Reading.{Reading}
 use Rattle.outcome.specs.Outcome.{outcome}

@@ -5,7 +5,6 @@ use native.Mathlib.Omega.{arith}
 use lib.ListN.{length}
 use Rattle.state_words.specs.Formed.{goodState}
 use Rattle.state_words.proofs.Laws.{good-fields}
-use Rattle.processor.proofs.Layouts.{good-fields}
 use Rattle.instructions.specs.Instruction.{instructionWords}
 use Rattle.sheet.specs.Lent.{Buffers}
 use Rattle.sheet.specs.Sheets.{text, savedOf}
