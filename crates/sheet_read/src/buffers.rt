@@ -78,16 +78,9 @@ fn judge(text: &[u8], shape: Shape) -> Tested
 fn fits(sizes: Sizes, state: usize, room: Sizes) -> bool
     ensures { λ r. ⌜ r ≡ roomFor sizes state room ⌝ }
 {
-    if state < FIELDS {
-        return false;
-    }
-    if room.pages < sizes.pages {
-        return false;
-    }
-    if room.bytes < sizes.bytes {
-        return false;
-    }
-    sizes.words <= room.words
+    (FIELDS <= state)
+        & ((sizes.pages <= room.pages)
+            & ((sizes.bytes <= room.bytes) & (sizes.words <= room.words)))
 }
 
 // Every part to the front of its buffer.
