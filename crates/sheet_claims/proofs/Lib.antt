@@ -7,6 +7,7 @@
 --     FirstBadLineProof     from-one, before, not-here
 --     EqualMeaningProof     equal-text, equal-writes
 --     LentBuffersProof      saved-sheeted, longest-text, written-read, pages-read-back, read-written, read-untouched, write-untouched
+--     RoomProof             read-room, write-room, read-room-last, write-room-last
 --     Promised              promised: all of them
 --     SavedLaws             lent-whole, ascended-valid, saved-back: from the lent buffers to a sheet and back
 
@@ -15,6 +16,7 @@ pub mod WorkedProof
 pub mod RoundTripsProof
 pub mod FirstBadLineProof
 pub mod EqualMeaningProof
+pub mod RoomProof
 pub mod Promised
 pub mod SavedLaws
 pub mod LentBuffersProof

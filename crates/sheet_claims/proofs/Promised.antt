@@ -5,6 +5,7 @@ use Rattle.sheet_claims.proofs.WorkedProof.{worked}
 use Rattle.sheet_claims.proofs.RoundTripsProof.{reads-back, writes-back}
 use Rattle.sheet_claims.proofs.FirstBadLineProof.{from-one, before, not-here}
 use Rattle.sheet_claims.proofs.EqualMeaningProof.{equal-text, equal-writes}
+use Rattle.sheet_claims.proofs.RoomProof.{read-room, write-room, read-room-last, write-room-last}
 use Rattle.sheet_claims.proofs.LentBuffersProof.{saved-sheeted, longest-text, written-read, pages-read-back, read-written, read-untouched, write-untouched}
 
 pub promised : Promises
@@ -26,4 +27,8 @@ promised = record {
   read-written = read-written;
   read-untouched = read-untouched;
   write-untouched = write-untouched;
+  read-room = read-room;
+  write-room = write-room;
+  read-room-last = read-room-last;
+  write-room-last = write-room-last;
 }

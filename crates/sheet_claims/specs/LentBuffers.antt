@@ -1,15 +1,17 @@
 -- Reading and writing undo each other, of what the contracts of `read` and `write` give: answers, and lent buffers of any length.
 -- Assumes nothing.
-use Prim.Native.Nat.{ℕ, _≤_}
+use Prim.Native.Nat.{ℕ, _<_, _≤_}
 use mathlib.Core.Path.{_≡_}
 use mathlib.Core.List.{List}
 use lib.ListN.{length, take}
 use Rattle.memory.specs.Extends.{HoldsPages}
+use Rattle.answers.specs.Answer.{roomNumber}
 use Rattle.replay.specs.declared.steps.Tested.the-variants.{Passed}
 use Rattle.sheet.specs.Lines.{fieldCount}
 use Rattle.sheet.specs.declared.line.Line.the-variants.{State as StateLine}
 use Rattle.sheet.specs.Lent.{Buffers, tested}
-use Rattle.sheet.specs.Sheets.{savedOf, buffersOf, text}
+use Rattle.sheet.specs.Sheets.{Saved, savedOf, buffersOf, text}
+use Rattle.sheet.specs.Reading.{parsed, sheet}
 use Rattle.sheet_read.specs.Reads.{readNumber, delivered, reads}
 use Rattle.sheet_read.specs.declared.buffers.Sizes.{Sizes}
 use Rattle.sheet_read.specs.declared.buffers.Reading.the-variants.{Done as ReadDone}
@@ -66,3 +68,42 @@ ReadUntouched = (t : List ℕ) (lent : Buffers) → (readNumber ((reads t lent) 
 -- and so does a refused write
 abbrev pub WriteUntouched : Type 0
 WriteUntouched = (run : Buffers) (out : List ℕ) → (writeNumber ((writes run out) .answer) ≡ 0 → ⊥) → (writes run out) .text ≡ out
+
+-- ---- refusal 8
+
+-- every part of a run fits its buffer
+pub record Room (run lent : Buffers) : Type 0 where
+  pub state : length (run .state) ≤ length (lent .state)
+  pub pages : length (run .pages) ≤ length (lent .pages)
+  pub bytes : length (run .bytes) ≤ length (lent .bytes)
+  pub words : length (run .words) ≤ length (lent .words)
+
+-- of a sheet whose run passes its tests, a read is done where every part fits, and else gets 8
+abbrev pub ReadRoom : Type 0
+ReadRoom =
+    (t : List ℕ) (s : Saved) (lent : Buffers)
+    → parsed t ≡ sheet s
+    → tested (buffersOf s) ≡ Passed
+    → (Room (buffersOf s) lent → readNumber ((reads t lent) .answer) ≡ 0) × ((Room (buffersOf s) lent → ⊥) → readNumber ((reads t lent) .answer) ≡ roomNumber)
+
+-- of a run that passes its tests, a write is done where the text fits, and else gets 8
+abbrev pub WriteRoom : Type 0
+WriteRoom =
+    (run : Buffers) (out : List ℕ)
+    → tested run ≡ Passed
+    → (length (text (savedOf run)) ≤ length out → writeNumber ((writes run out) .answer) ≡ 0) × (length out < length (text (savedOf run)) → writeNumber ((writes run out) .answer) ≡ roomNumber)
+
+-- 8 comes last: any other refusal is the same whatever is lent
+abbrev pub ReadRoomLast : Type 0
+ReadRoomLast =
+    (t : List ℕ) (lent other : Buffers)
+    → (readNumber ((reads t lent) .answer) ≡ 0 → ⊥)
+    → (readNumber ((reads t lent) .answer) ≡ roomNumber → ⊥)
+    → (reads t other) .answer ≡ (reads t lent) .answer
+
+abbrev pub WriteRoomLast : Type 0
+WriteRoomLast =
+    (run : Buffers) (out other : List ℕ)
+    → (writeNumber ((writes run out) .answer) ≡ 0 → ⊥)
+    → (writeNumber ((writes run out) .answer) ≡ roomNumber → ⊥)
+    → (writes run other) .answer ≡ (writes run out) .answer

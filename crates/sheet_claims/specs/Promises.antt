@@ -5,7 +5,7 @@ use Rattle.sheet_claims.specs.Worked.{Worked}
 use Rattle.sheet_claims.specs.RoundTrips.{SavedSheeted, ReadsBack, WritesBack}
 use Rattle.sheet_claims.specs.FirstBadLine.{FromOne, Before, NotHere}
 use Rattle.sheet_claims.specs.EqualMeaning.{EqualText, EqualWrites}
-use Rattle.sheet_claims.specs.LentBuffers.{LongestText, WrittenRead, PagesReadBack, ReadWritten, ReadUntouched, WriteUntouched}
+use Rattle.sheet_claims.specs.LentBuffers.{LongestText, WrittenRead, PagesReadBack, ReadWritten, ReadUntouched, WriteUntouched, ReadRoom, WriteRoom, ReadRoomLast, WriteRoomLast}
 
 pub record Promises : Type 0 where
   pub number-read : NumberRead
@@ -25,3 +25,7 @@ pub record Promises : Type 0 where
   pub read-written : ReadWritten
   pub read-untouched : ReadUntouched
   pub write-untouched : WriteUntouched
+  pub read-room : ReadRoom
+  pub write-room : WriteRoom
+  pub read-room-last : ReadRoomLast
+  pub write-room-last : WriteRoomLast
