@@ -45,6 +45,7 @@ impl Line {
         }
     }
 
+    // What it is called. Behind the name its letters are spaces, which nothing reads.
     fn name(self) -> Name
         ensures { λ r. ⌜ Spells r (nameOf self) ⌝ }
     {

@@ -1,15 +1,15 @@
 -- A line that was printed, read back; and that it is of no other kind. From the laws on single lines. Assumes nothing.
-use Prim.Native.Nat.{ℕ, _^_, _<_}
-use mathlib.Core.Bool.{Bool, true, false, cond, _&&_}
+use Prim.Native.Nat.{ℕ, _+_, _*_, _^_, _<_}
+use mathlib.Core.Bool.{Bool, true, false, true≢false, cond, _&&_}
 use mathlib.Core.List.{List, [], _∷_}
-use mathlib.Core.Path.{_≡_, refl, _∙_}
+use mathlib.Core.Path.{_≡_, refl, sym, ap, _∙_}
 use native.Mathlib.Omega.{arith}
 use lib.ListN.{length, getD, drop}
 use lib.Dec.{eqb}
 use borrow.Author.Tests.{eq-eqb, ne-eqb}
 use Rattle.texts.specs.Digits.{Below}
 use Rattle.texts.specs.Fields.{lines}
-use Rattle.sheet.specs.Lines.{fieldCount, line, isLine, values}
+use Rattle.sheet.specs.Lines.{name, fieldCount, line, isLine, values}
 use Rattle.sheet.specs.Sheets.{version}
 use Rattle.sheet.specs.Reading.{noSheet, value, next, isWord, parsedBody, parsedBy, parsedLines}
 use Rattle.sheet.specs.declared.line.Line.{Line}
@@ -26,6 +26,13 @@ no-other kind other l is differ = go (isLine other l) refl
     go : (t : Bool) → isLine other l ≡ t → t ≡ false
     go true e = absurd (differ (one-kind kind other l is e))
     go false e = refl
+
+-- the first two letters of a name, by which kinds are told apart
+abbrev pub letters : Line → ℕ
+letters kind = getD (name kind) 0 0 + 256 * getD (name kind) 1 0
+
+pub differ : (kind other : Line) → eqb (letters kind) (letters other) ≡ false → kind ≡ other → ⊥
+differ kind other told same = true≢false (sym (eq-eqb _ _ (ap letters same)) ∙ told)
 
 -- an empty line is of no kind
 pub no-line : (kind : Line) → isLine kind [] ≡ false

@@ -13,7 +13,8 @@ use Rattle.texts.proofs.DigitLaws.{both}
 use Rattle.sheet.specs.Lent.{Buffers, tested}
 use Rattle.sheet.specs.Sheets.{buffersOf, savedOf, text}
 use Rattle.sheet.specs.Reading.{Parsed, sheet, noSheet, parsed}
-use Rattle.sheet_read.specs.Reads.{readNumber, Read, delivered, byTest, byText, fits, reads}
+use Rattle.sheet_read.specs.Reads.{readNumber, sizesOf, delivered, byTest, byText, fits, reads}
+use Rattle.sheet_read.proofs.Rooms.{within-parts}
 use Rattle.sheet_write.specs.Writes.{writeNumber, Written, byTest as writtenByTest, printed, writes}
 use Rattle.sheet_claims.specs.LentBuffers.{Room, ReadRoom, WriteRoom, ReadRoomLast, WriteRoomLast}
 
@@ -22,10 +23,9 @@ use Rattle.sheet_claims.specs.LentBuffers.{Room, ReadRoom, WriteRoom, Re
 fits-room : (run lent : Buffers) → fits run lent ≡ true → Room run lent
 unfolding fits
 fits-room run lent h =
-    let first = both (leb (length (run .state)) (length (lent .state))) _ h in
-    let second = both (leb (length (run .pages)) (length (lent .pages))) _ (first .1) in
-    let third = both (leb (length (run .bytes)) (length (lent .bytes))) _ (second .1) in
-    record { state = leb-true _ _ (first .0); pages = leb-true _ _ (second .0); bytes = leb-true _ _ (third .0); words = leb-true _ _ (third .1) }
+    let parts = both (leb (length (run .state)) (length (lent .state))) _ h in
+    let rest = within-parts (sizesOf run) (sizesOf lent) (parts .1) in
+    record { state = leb-true _ _ (parts .0); pages = rest .0; bytes = rest .1; words = rest .2 }
 
 room-fits : (run lent : Buffers) → Room run lent → fits run lent ≡ true
 unfolding fits

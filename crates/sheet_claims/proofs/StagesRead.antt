@@ -16,7 +16,7 @@ use Rattle.sheet.specs.declared.line.Line.{Line}
 use Rattle.sheet.specs.declared.line.Line.the-variants.{Page as PageLine, Word, Do}
 use Rattle.sheet.proofs.LineLaws.{is-line-line, values-line}
 use Rattle.sheet_claims.proofs.Plain.{none-next, stage-read}
-use Rattle.sheet_claims.proofs.LineKinds.{no-other, no-line, one-below, word-line, no-word}
+use Rattle.sheet_claims.proofs.LineKinds.{differ, no-other, no-line, one-below, word-line, no-word}
 use Rattle.sheet_claims.proofs.WordsRead.{next-of-pages, pages-read}
 
 -- ---- pages
@@ -59,9 +59,9 @@ module _ (s : Saved) (h : Sheeted s) where
   pub stages-read : stages (pageLines (s .pages) ++ (pagesWords (s .pages) ++ dos)) ≡ record { pages = s .pages; words = s .words; left = [] }
   unfolding stages
   stages-read =
-      let other = behind-pages PageLine (λ q. let z : _≡_ {A = ℕ} 0 1 = cc in omega arith) (λ q. let z : _≡_ {A = ℕ} 0 1 = cc in omega arith) in
+      let other = behind-pages PageLine (differ Word PageLine refl) (differ Do PageLine refl) in
       let counted = pages-counted 0 (s .pages) (pagesWords (s .pages) ++ dos) (h .ascending) (h .pages) other in
-      let no-words = behind-words Word (λ q. let z : _≡_ {A = ℕ} 0 1 = cc in omega arith) in
+      let no-words = behind-words Word (differ Do Word refl) in
       let words = pages-read 0 (s .pages) dos (h .ascending) (h .pages) (λ a. no-word a (next dos) no-words) in
       let steps = rw append-nil at (stage-read Do (s .words) (h .whole) (h .words) [] (no-line Do)) in
       rw (counted, take-append-seam (pageLines (s .pages)), drop-append-seam (pageLines (s .pages)), entries-read (s .pages) (h .pages))

@@ -33,16 +33,16 @@ use Rattle.sheet_read.specs.declared.buffers.Reading.the-variants.{Done,
 use Rattle.sheet_read.specs.declared.stage.Stage.{Stage}
 use Rattle.sheet_read.specs.declared.scan.Shape.{Shape}
 use Rattle.sheet_read.proofs.Leads.{numbers-length}
+use Rattle.sheet_read.proofs.Rooms.{within-parts}
 use Rattle.sheet_read.proofs.Pages.{entries-kept, bytes-length}
 
 -- every part fits its buffer
 pub room-parts : (sizes : Sizes) (state : ℕ) (room : Sizes) → roomFor sizes state room ≡ true → (fields ≤ state) × (sizes .pages ≤ room .pages) × (sizes .bytes ≤ room .bytes) × (sizes .words ≤ room .words)
 unfolding roomFor
 room-parts sizes state room h =
-    let first = both (leb fields state) _ h in
-    let second = both (leb (sizes .pages) (room .pages)) _ (first .1) in
-    let third = both (leb (sizes .bytes) (room .bytes)) _ (second .1) in
-    (leb-true _ _ (first .0), leb-true _ _ (second .0), leb-true _ _ (third .0), leb-true _ _ (third .1))
+    let parts = both (leb fields state) _ h in
+    let rest = within-parts sizes room (parts .1) in
+    (leb-true _ _ (parts .0), rest .0, rest .1, rest .2)
 
 -- ---- the parts
 

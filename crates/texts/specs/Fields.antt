@@ -46,9 +46,11 @@ lines (c ∷ cs) = cond (eqb c lineFeed) ((c ∷ []) ∷ lines cs) (inFront c (l
 abbrev pub anyDigit : ℕ
 anyDigit = 35
 
+-- what every number looks like
 abbrev pub numberForm : List ℕ
 numberForm = letterX ∷ replicate digits anyDigit
 
+-- what n numbers look like, each behind a tab
 unfoldable pub fieldForms : ℕ → List ℕ
 fieldForms zero = []
 fieldForms (suc n) = tab ∷ (numberForm ++ fieldForms n)
