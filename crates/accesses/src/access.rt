@@ -8,7 +8,7 @@ use addresses::Width;
 use numbers::Size;
 
 // The three kinds of page.
-#[derive(Drop)]
+#[derive(Clone, Copy)]
 pub enum Kind {
     UserShadow,
     SupervisorShadow,
@@ -17,7 +17,7 @@ pub enum Kind {
 
 // A load or a store, before it is done. No answer depends on `store` or `user`; a page fault's error code reports
 // them, and an access through a gate is made with the privilege of its moment.
-#[derive(Drop)]
+#[derive(Clone, Copy)]
 pub struct Access {
     // The first byte's address. The others follow, and wrap at the width.
     pub first: u64,

@@ -12,7 +12,7 @@ use numbers::Size;
 use pages::{Spot, find};
 
 // What a load gives.
-#[derive(Drop)]
+#[derive(Clone, Copy)]
 pub enum Loaded {
     Value(u64),
     Blocked(Failure),

@@ -9,7 +9,7 @@ use addresses::{Width, canonical};
 use pages::{Spot, find};
 
 // Why an access cannot be done.
-#[derive(Drop)]
+#[derive(Clone, Copy)]
 pub enum Failure {
     // Some byte's address is not canonical.
     NotCanonical,
@@ -20,14 +20,14 @@ pub enum Failure {
 }
 
 // What trying an access finds.
-#[derive(Drop)]
+#[derive(Clone, Copy)]
 pub enum Reach {
     Ready,
     Blocked(Failure),
 }
 
 // What is asked of a byte.
-#[derive(Drop)]
+#[derive(Clone, Copy)]
 pub(crate) enum Asked {
     Canonical,
     OnKind(u64),

@@ -3,7 +3,7 @@ ghost use Rattle.std.specs.Prelude.{◌≡◌};
 ghost use Rattle.addresses.specs.Address.{wrapped, plus as plus_of, minus as minus_of, canonical as canonical_of};
 
 // How wide the addresses of an access are: modulo 2^32 or modulo 2^64.
-#[derive(Drop)]
+#[derive(Clone, Copy)]
 pub enum Width {
     Bits32,
     Bits64,

@@ -3,7 +3,7 @@ ghost use Rattle.std.specs.Prelude.{◌≡◌};
 ghost use Rattle.answers.specs.Answer.{vector_number, refusal_number, report_of};
 
 // The exceptions that can be raised.
-#[derive(Drop)]
+#[derive(Clone, Copy)]
 pub enum Vector {
     // #UD, invalid opcode.
     InvalidOpcode,
@@ -18,7 +18,7 @@ pub enum Vector {
 }
 
 // A fault: its vector, its error code, and for a page fault the address of the byte.
-#[derive(Drop)]
+#[derive(Clone, Copy)]
 pub struct Fault {
     pub vector: Vector,
     pub code: u64,
@@ -26,7 +26,7 @@ pub struct Fault {
 }
 
 // Why an input or an instruction is refused.
-#[derive(Drop)]
+#[derive(Clone, Copy)]
 pub enum Refusal {
     // The page list: its length, a kind, an address, two equal addresses.
     Length,
@@ -47,7 +47,7 @@ pub const NO_ROOM: u64 = 8;
 pub const NO_SHEET: u64 = 9;
 
 // What an operation or a run answers.
-#[derive(Drop)]
+#[derive(Clone, Copy)]
 pub enum Answer {
     Completed,
     Refused(Refusal),
@@ -55,7 +55,7 @@ pub enum Answer {
 }
 
 // An answer in numbers: all 0 where it completed.
-#[derive(Drop)]
+#[derive(Clone, Copy)]
 pub struct Report {
     pub refusal: u64,
     pub vector: u64,

@@ -1,4 +1,6 @@
 // The answers of the processor's operations, and their faults.
+#![tactic(auto)]
+
 mod answer;
 mod faults;
 

@@ -1,4 +1,6 @@
 // Near CALL.
+#![tactic(auto)]
+
 ghost use Rattle.std.specs.Prelude.{◌≡◌};
 ghost use Rattle.accesses.specs.Access.{lookup_of};
 ghost use Rattle.processor.specs.Prog.{operate};
@@ -11,7 +13,7 @@ use stores::{SLOTS, Slot, Stored};
 use targets::{in_code, pushed, runs_past};
 
 // The push on the shadow stack, if there is one, and SSP after the call.
-#[derive(Drop)]
+#[derive(Clone, Copy)]
 struct Frame {
     slot: Slot,
     ssp: u64,

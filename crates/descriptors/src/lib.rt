@@ -1,11 +1,13 @@
 // The global descriptor table: a descriptor taken out of it by a selector, handed on by value.
+#![tactic(auto)]
+
 ghost use Rattle.std.specs.Prelude.{◌≡◌};
 ghost use Rattle.descriptors.specs.Descriptors.{class_of, scaled_limit, base_of, descriptor_of, selected};
 
 use numbers::{Held, Size};
 
 // What a descriptor stands for, as far as calls ask.
-#[derive(Drop)]
+#[derive(Clone, Copy)]
 pub enum Class {
     // A code segment.
     Code,
@@ -15,7 +17,7 @@ pub enum Class {
 }
 
 // What a descriptor says.
-#[derive(Drop)]
+#[derive(Clone, Copy)]
 pub struct Descriptor {
     pub class: Class,
     // Of a code segment: it keeps the privilege of its caller.
@@ -31,7 +33,7 @@ pub struct Descriptor {
 }
 
 // Where a selector leads.
-#[derive(Drop)]
+#[derive(Clone, Copy)]
 pub enum Selected {
     Null,
     // To the local table.

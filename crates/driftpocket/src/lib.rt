@@ -1,5 +1,7 @@
 // The C interface: a whole run over lent words and bytes. Lengths travel with every buffer, so that a caller built against another
 // state gets a refusal and no stray write.
+#![tactic(auto)]
+
 ghost use Rattle.std.specs.Prelude.{ℕ, List, ◌≡◌};
 ghost use Rattle.numbers.specs.Buffers.{laid_if};
 ghost use Rattle.answers.specs.Answer.{report_of};

@@ -1,4 +1,6 @@
 // The C interface of sheets: read one into lent buffers, write one into a lent text. Lengths travel with every buffer.
+#![tactic(auto)]
+
 ghost use Rattle.std.specs.Prelude.{◌≡◌, ◌∷◌};
 ghost use Rattle.sheet_read.specs.Reads.{reads};
 ghost use Rattle.driftpocket_sheet.specs.Crossing.{or_no_room, nowhere, size_words, read_report, write_report, crossed_read, crossed_write};

@@ -1,4 +1,6 @@
 // INCSSPD and INCSSPQ: pop elements off the shadow stack.
+#![tactic(auto)]
+
 ghost use Rattle.std.specs.Prelude.{◌≡◌};
 ghost use Rattle.accesses.specs.Access.{lookup_of};
 ghost use Rattle.processor.specs.Prog.{operate};

@@ -4,7 +4,7 @@
 pub const INSTRUCTION_WORDS: usize = 4;
 
 // Its code, its length in bytes, and its two operand words.
-#[derive(Drop)]
+#[derive(Clone, Copy)]
 pub struct Instruction {
     pub code: u64,
     pub length: u64,

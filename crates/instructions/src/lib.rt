@@ -1,4 +1,6 @@
 // Instructions in words, which operation a code names, the form of an instruction, and the permission bits.
+#![tactic(auto)]
+
 mod form;
 mod instruction;
 mod operation;

@@ -5,21 +5,21 @@ ghost use Rattle.instructions.specs.Operation.{decoded};
 use memory::Size;
 
 // How a near CALL names its target: by a displacement from Next, or by itself.
-#[derive(Drop)]
+#[derive(Clone, Copy)]
 pub enum Target {
     Relative,
     Absolute,
 }
 
 // What a near RET takes off the stack: the return address, or bytes besides, as many as its count says.
-#[derive(Drop)]
+#[derive(Clone, Copy)]
 pub enum Release {
     Plain,
     Counted,
 }
 
 // An operation, with what its code says of its form. The sizes are those of an element or of a store.
-#[derive(Drop)]
+#[derive(Clone, Copy)]
 pub enum Operation {
     Incssp(Size),
     Rstorssp,

@@ -2,6 +2,8 @@
 //
 // The crates above use these contracts and nothing else of it. Any entries, any bytes and any access may be handed in; each
 // contract gives outright what comes back and what every lent byte holds then.
+#![tactic(auto)]
+
 mod moves;
 mod one_page;
 

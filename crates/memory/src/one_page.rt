@@ -12,7 +12,7 @@ use numbers::{Held, Size};
 use pages::{PAGE_BYTES, Spot, find};
 
 // What trying an access finds, and where it lies.
-#[derive(Drop)]
+#[derive(Clone, Copy)]
 pub enum Located {
     // It can be done, and all its bytes lie on one page, the first at this place.
     Within(usize),

@@ -5,7 +5,7 @@ ghost use Rattle.numbers.specs.Numbers.{byte_count, number_at, held};
 use crate::size::Size;
 
 // What lies at a place.
-#[derive(Drop)]
+#[derive(Clone, Copy)]
 pub enum Held {
     Number(u64),
     // The list ends before the number does.

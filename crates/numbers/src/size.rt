@@ -4,7 +4,7 @@ ghost use Rattle.numbers.specs.Numbers.{byte_count, inside};
 
 use crate::copies::has_room;
 
-#[derive(Drop)]
+#[derive(Clone, Copy)]
 pub enum Size {
     Four,
     Eight,

@@ -1,5 +1,7 @@
 // The outcome of a sheet: reads a run sheet from standard input, runs it, and writes to standard output how it ended and the run that is
 // left. No contract can speak of what is read and written there; `outcome` says what is written for a text.
+#![tactic(auto)]
+
 ghost use Rattle.std.specs.Prelude.{◌≡◌, List, ℕ, ◌*◌, ◌≤◌, length, take, drop};
 ghost use Rattle.processor.specs.Layout.{words_of};
 ghost use Rattle.replay.specs.Run.{input_of};
@@ -29,7 +31,7 @@ const ANSWER_LINE: usize = 7 + 5 * FIELD;
 const REFUSED_LINE: usize = 8 + 2 * FIELD;
 
 // How many bytes of a line and of a sheet are to be written.
-#[derive(Drop)]
+#[derive(Clone, Copy)]
 struct Fronts {
     line: usize,
     sheet: usize,

@@ -14,7 +14,7 @@ pub const PAGE_BYTES: usize = 4096;
 pub const PAGE_LIMIT: usize = 16;
 
 // What a page list and its bytes are: valid, or refused for the first of these reasons.
-#[derive(Drop)]
+#[derive(Clone, Copy)]
 pub enum Listing {
     Valid,
     // Too many entries, or a byte length that is not 4,096 for each.
@@ -28,7 +28,7 @@ pub enum Listing {
 }
 
 // What an address leads to.
-#[derive(Drop)]
+#[derive(Clone, Copy)]
 pub enum Spot {
     // No listed page.
     Unlisted,
@@ -37,7 +37,7 @@ pub enum Spot {
 }
 
 // What a search of the entries looks for.
-#[derive(Drop)]
+#[derive(Clone, Copy)]
 enum Sought {
     BadKind,
     BadAddress,

@@ -1,4 +1,6 @@
 // A single operation: the form of an instruction, its dispatch, and the permission bits around it.
+#![tactic(auto)]
+
 ghost use Rattle.std.specs.Prelude.{◌≡◌};
 ghost use Rattle.accesses.specs.Access.{lookup_of};
 ghost use Rattle.processor.specs.Prog.{operate};

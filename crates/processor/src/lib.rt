@@ -1,4 +1,6 @@
 // The processor: its state, and what its operations hand back.
+#![tactic(auto)]
+
 mod layout;
 mod outcome;
 mod popped;

@@ -7,7 +7,7 @@ use crate::state::State;
 use answers::{Answer, Fault, Refusal};
 
 // The answer, and the state: from before the operation where it faulted.
-#[derive(Drop)]
+#[derive(Clone, Copy)]
 pub struct Outcome {
     pub answer: Answer,
     pub state: State,

@@ -2,7 +2,7 @@
 use answers::Fault;
 
 // The new top of the stack, or the fault on the way to it.
-#[derive(Drop)]
+#[derive(Clone, Copy)]
 pub enum Popped {
     Top(u64),
     Failed(Fault),

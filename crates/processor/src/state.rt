@@ -6,7 +6,7 @@ ghost use Rattle.processor.specs.Accesses.{access_of, shadow as shadow_of, ordin
 use memory::{Access, Kind, Size, Width};
 
 // All fields are whole numbers of 64 bits, so that any state can be handed in and refused.
-#[derive(Drop)]
+#[derive(Clone, Copy)]
 pub struct State {
     // 0 real or virtual-8086, 1 32-bit protected or compatibility, 2 64-bit.
     pub mode: u64,

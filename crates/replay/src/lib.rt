@@ -1,4 +1,6 @@
 // Whole runs: instructions in words, the refusals of an input and of an instruction, one step and a list of them.
+#![tactic(auto)]
+
 mod runs;
 mod steps;
 

@@ -11,7 +11,7 @@ use perform::perform;
 use processor::{Answer, State};
 
 // How many instructions completed, the answer, and the state: from before the instruction that was refused or faulted.
-#[derive(Drop)]
+#[derive(Clone, Copy)]
 pub struct Replay {
     pub count: usize,
     pub answer: Answer,

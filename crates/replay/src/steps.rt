@@ -13,7 +13,7 @@ use processor::{Outcome, Refusal, State};
 pub const INSTRUCTION_LIMIT: usize = 1024;
 
 // What the tests of an input find.
-#[derive(Drop)]
+#[derive(Clone, Copy)]
 pub enum Tested {
     Passed,
     Failed(Refusal),

@@ -1,4 +1,6 @@
 // RSTORSSP: restore the saved shadow stack pointer, by the token at an address.
+#![tactic(auto)]
+
 ghost use Rattle.std.specs.Prelude.{◌≡◌};
 ghost use Rattle.accesses.specs.Access.{lookup_of};
 ghost use Rattle.processor.specs.Prog.{operate};

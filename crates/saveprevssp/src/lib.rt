@@ -1,4 +1,6 @@
 // SAVEPREVSSP: leave a restore token on the previous shadow stack.
+#![tactic(auto)]
+
 ghost use Rattle.std.specs.Prelude.{◌≡◌};
 ghost use Rattle.accesses.specs.Access.{lookup_of};
 ghost use Rattle.processor.specs.Prog.{interp, operate};

@@ -1,4 +1,6 @@
 // The lines of a run sheet: a name, numbers, a line feed. Reading and writing whole sheets stands above this crate.
+#![tactic(auto)]
+
 mod forms;
 mod line;
 

@@ -10,7 +10,7 @@ use instructions::INSTRUCTION_WORDS;
 use processor::FIELDS;
 use texts::{FIELD, put_line};
 
-#[derive(Drop)]
+#[derive(Clone, Copy)]
 pub enum Line {
     // The version.
     Sheet,
@@ -25,7 +25,7 @@ pub enum Line {
 }
 
 // A kind's name, at the front of its letters.
-#[derive(Drop)]
+#[derive(Clone, Copy)]
 struct Name {
     letters: [u8; 5],
     length: usize,

@@ -20,7 +20,7 @@ use sheet::Line;
 use state_words::good_state;
 
 // How many pages, bytes and words a run has.
-#[derive(Drop)]
+#[derive(Clone, Copy)]
 pub struct Sizes {
     pub pages: usize,
     pub bytes: usize,
@@ -28,7 +28,7 @@ pub struct Sizes {
 }
 
 // What reading a text answers.
-#[derive(Drop)]
+#[derive(Clone, Copy)]
 pub enum Reading {
     // The buffers hold the run.
     Done(Sizes),

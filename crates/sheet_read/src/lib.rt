@@ -1,4 +1,6 @@
 // Reading a run sheet into lent buffers.
+#![tactic(auto)]
+
 mod buffers;
 mod fill;
 mod scan;

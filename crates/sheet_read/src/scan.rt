@@ -13,7 +13,7 @@ use order::page_number;
 use sheet::{Line, SLOTS, VERSION};
 
 // The state, page, word and do lines of a sheet.
-#[derive(Drop)]
+#[derive(Clone, Copy)]
 pub(crate) struct Shape {
     pub state: Stage,
     pub pages: Stage,
@@ -22,7 +22,7 @@ pub(crate) struct Shape {
 }
 
 // What a text is.
-#[derive(Drop)]
+#[derive(Clone, Copy)]
 pub(crate) enum Scan {
     Sheet(Shape),
     // No sheet: the first line, from 1, that cannot begin or continue one.

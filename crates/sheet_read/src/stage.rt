@@ -8,7 +8,7 @@ use sheet::Line;
 use texts::{FIELD, Numeral, number};
 
 // Lines of one kind, one behind the other: where they begin, and how many they are.
-#[derive(Drop)]
+#[derive(Clone, Copy)]
 pub(crate) struct Stage {
     pub at: usize,
     pub count: usize,

@@ -17,7 +17,7 @@ use sheet::Line;
 use state_words::good_state;
 
 // What writing a run answers.
-#[derive(Drop)]
+#[derive(Clone, Copy)]
 pub enum Writing {
     // The buffer begins with the sheet, which is so long.
     Done(usize),

@@ -1,11 +1,13 @@
 // A state from its words: what words make, and whether it is in range.
+#![tactic(auto)]
+
 ghost use Rattle.std.specs.Prelude.{◌≡◌};
 ghost use Rattle.state_words.specs.Formed.{formed as formed_of, good_state};
 
 use processor::{FIELDS, State};
 
 // What words make.
-#[derive(Drop)]
+#[derive(Clone, Copy)]
 pub enum Formed {
     Whole(State),
     // Not as many as a state has fields.

@@ -1,5 +1,7 @@
 // Up to eight stores of one operation, as a list: all are tried in their order before any is made, so that the first that cannot be
 // done leaves every byte as it was.
+#![tactic(auto)]
+
 ghost use Rattle.std.specs.Prelude.{◌≡◌};
 ghost use Rattle.accesses.specs.Access.{lookup_of, written};
 ghost use Rattle.stores.specs.Stores.{try_all, written_all, left_by};
@@ -11,14 +13,14 @@ use memory::{Access, Failure, Located, store_at};
 pub const SLOTS: usize = 8;
 
 // A store that is to be made, or the end of the list.
-#[derive(Drop)]
+#[derive(Clone, Copy)]
 pub enum Slot {
     End,
     Store(Access, u64),
 }
 
 // What became of the stores.
-#[derive(Drop)]
+#[derive(Clone, Copy)]
 pub enum Stored {
     AllStored,
     // The first that cannot be done, and why.

@@ -1,4 +1,6 @@
 // Where calls and returns may go, and how many bytes they push and pop.
+#![tactic(auto)]
+
 ghost use Rattle.std.specs.Prelude.{◌≡◌};
 ghost use Rattle.targets.specs.Targets.{displacement as displacement_of, displaced as displaced_of, moved as moved_of, relative as relative_of, in_code, pushed as pushed_of, runs_past};
 

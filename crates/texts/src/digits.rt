@@ -9,7 +9,7 @@ use numbers::has_room;
 pub(crate) const DIGITS: usize = 16;
 
 // What stands at a place of a text.
-#[derive(Drop)]
+#[derive(Clone, Copy)]
 pub enum Numeral {
     Number(u64),
     // Anything else than the letter x and 16 digits.

@@ -1,4 +1,6 @@
 // Numbers in a text: hexadecimal digits, fields behind tabs, and lines of any name. Which lines there are stands above this crate.
+#![tactic(auto)]
+
 mod digits;
 mod put;
 

@@ -1,1 +1,2 @@
 // No code: the worked cases stand in specs/, their proof in proofs/.
+#![tactic(auto)]

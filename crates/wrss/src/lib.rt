@@ -1,4 +1,6 @@
 // WRSSD and WRSSQ: write to the shadow stack.
+#![tactic(auto)]
+
 ghost use Rattle.std.specs.Prelude.{◌≡◌};
 ghost use Rattle.accesses.specs.Access.{lookup_of};
 ghost use Rattle.processor.specs.Prog.{operate};

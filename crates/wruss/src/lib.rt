@@ -1,4 +1,6 @@
 // WRUSSD and WRUSSQ: the kernel's write to a user's shadow stack.
+#![tactic(auto)]
+
 ghost use Rattle.std.specs.Prelude.{◌≡◌};
 ghost use Rattle.accesses.specs.Access.{lookup_of};
 ghost use Rattle.processor.specs.Prog.{operate};
