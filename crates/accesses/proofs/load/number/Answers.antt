@@ -1,0 +1,39 @@
+-- `number` meets its contract. The invariant is `Built`: the value holds the bytes from `left` on, and is small enough for one more. The measure is `left`. Assumes nothing.
+use Prim.Native.Nat.{◌-◌, ◌^◌, ◌<◌}
+use mathlib.Core.Path.{◌∙◌, ap}
+use native.Mathlib.Omega.{arith}
+use lib.ListN.{length}
+use Rattle.accesses.specs.Access.{byte_in}
+use Rattle.pages.specs.Pages.{spot}
+use Rattle.accesses.proofs.Numbers.{room, built_none, built_all, built_more}
+use Rattle.numbers.proofs.Laws.{at_most_eight}
+use Rattle.accesses.proofs.load.number.Goals.{In-loop-left}
+use Rattle.accesses.proofs.load.number.Goals as goal
+
+small : (c : In-loop-left) → c.loop-left.value < 2 ^ 56
+small c =
+    let n : ℕ = c.bytes-left.result in
+    let most = at_most_eight c.args.size in
+    room c.loop-left.value (n - c.loop-left.left) (rw c.bytes-left.ensures (omega arith)) c.loop-left.invariant.below
+
+-- TODO
+mul-value : tie.Need-overflow-mul-value invariant-loop decreases-loop
+mul-value c = omega (arith, small c.before.before)
+
+-- TODO
+add-value : tie.Need-overflow-add-value invariant-loop decreases-loop
+add-value c = omega (arith, small c.before.before.before, c.before.byte_at.type-inv)
+
+pub loop-left-init : goal.loop-left-init
+loop-left-init c = built_none _ _ _ _ _
+
+pub loop-left-preserved : goal.loop-left-preserved
+loop-left-preserved c =
+    let args = c.args in
+    built_more _ _ _ _ _ _ _ _ c.loop-left-test.true c.loop-left.invariant (omega (arith, c.byte_at-byte.type-inv))
+    (c.wide.ensures
+    ∙ c.byte_at-byte.ensures
+    ∙ ap (λ (a : ℕ). byte_in args.bytes.now (spot args.pages.now (length args.bytes.now) a)) c.plus.ensures)
+
+pub returns : goal.returns
+returns c = rw (← c.bytes-left.ensures) (built_all _ _ _ _ _ _ _ c.loop-left-test.false c.loop-left.invariant)

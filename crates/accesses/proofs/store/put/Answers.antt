@@ -1,0 +1,24 @@
+-- `put` meets its contract. The page of the place is lent whole, and a byte set in it is that byte set in the whole. Assumes nothing.
+use mathlib.Core.Path.{sym, ◌∙◌}
+use native.Mathlib.Omega.{arith}
+use Rattle.accesses.proofs.Parts.{put_in}
+use Rattle.accesses.proofs.Spots.{spot_page}
+use Rattle.accesses.proofs.store.put.Goals as goal
+
+-- TODO
+add-end : tie.Need-overflow-add-end
+add-end c =
+    omega (arith, spot_page _ _ _ _ _ (sym c.before.before.before.find.ensures ∙ c.before.place.given.1))
+
+-- TODO
+part-put-in-page-end : tie.Need-slice-bounds-put-in-page-end
+part-put-in-page-end c =
+    spot_page _ _ _ _ _ (sym c.before.before.before.find.ensures ∙ c.before.place.given.1)
+
+pub returns-in-Unlisted : goal.returns-in-Unlisted
+returns-in-Unlisted c = rw (sym c.find.ensures ∙ c.in-Unlisted.is)
+
+pub returns-in-At : goal.returns-in-At
+returns-in-At c =
+    let led = sym c.find.ensures ∙ c.in-At.is in
+    rw (led, c.put_in_page.ensures) (put_in _ _ _ (spot_page _ _ _ _ _ led))

@@ -1,0 +1,9 @@
+-- `refuse` meets its contract, by what the tests found. Assumes nothing.
+use Rattle.driftpocket.proofs.refuse.Goals as goal
+
+pub returns-in-Failed : goal.returns-in-Failed
+returns-in-Failed c =
+    rw (c.in-Failed.is, c.number.ensures, c.write_report.ensures)
+
+pub returns-in-Passed : goal.returns-in-Passed
+returns-in-Passed c = rw c.in-Passed.is

@@ -1,0 +1,11 @@
+-- `write_report` meets its contract, case by case. Assumes nothing.
+use Rattle.driftpocket_sheet.proofs.write_report.Goals as goal
+
+pub returns-in-Done : goal.returns-in-Done
+returns-in-Done c = rw c.in-Done.is
+
+pub returns-in-Refused : goal.returns-in-Refused
+returns-in-Refused c = rw (c.in-Refused.is, c.number.ensures)
+
+pub returns-in-TooLong : goal.returns-in-TooLong
+returns-in-TooLong c = rw c.in-TooLong.is

@@ -1,0 +1,11 @@
+-- `copy_words` meets its contract. The invariant: what is still to be laid gives the whole. Assumes nothing.
+use Prim.Native.Nat.{◌-◌}
+use lib.ListN.{length}
+use Rattle.numbers.proofs.BufferLaws.{Copying}
+use Rattle.numbers.proofs.copies.copy_words.Given as goal
+
+abbrev pub invariant-loop-i : goal.invariant-loop-i
+invariant-loop-i l = Copying l.words l.initial.out l.at l.out l.i
+
+abbrev pub decreases-loop-i : goal.decreases-loop-i
+decreases-loop-i l = length l.words - l.i

@@ -1,0 +1,27 @@
+-- `put_left` meets its contract: of the writer's answers only `Done` can be. Assumes nothing.
+use Rattle.processor.specs.Layout.{words_of}
+use Rattle.sheet.specs.Lent.{Buffers}
+use Rattle.sheet.specs.Sheets.{saved_of, text}
+use Rattle.outcome.proofs.RunLaws.{PutBy, left_put}
+use Rattle.outcome.proofs.put_left.Goals.{After-write, Start}
+use Rattle.outcome.proofs.put_left.Goals as goal
+
+abbrev left : Start → Buffers
+left c = record { state = words_of c.args.state; pages = c.args.pages.now; bytes = c.args.bytes.now; words = c.args.words.now }
+
+-- what the writer's answer says
+put : (c : After-write) → PutBy c.write.result (text (saved_of (left (TODO c).Start))) c.write.new.text
+put c =
+    left_put (left (TODO c).Start) c.requires.0 _ c.requires.1 _ _ (rw c.words-fields.ensures at c.write.ensures)
+
+pub returns-in-Done : goal.returns-in-Done
+returns-in-Done c =
+    rw c.in-Done.is at (put (goal.at.returns-in-Done c).After-write)
+
+pub returns-in-Refused : goal.returns-in-Refused
+returns-in-Refused c =
+    absurd (rw c.in-Refused.is at (put (goal.at.returns-in-Refused c).After-write))
+
+pub returns-in-TooLong : goal.returns-in-TooLong
+returns-in-TooLong c =
+    absurd (rw c.in-TooLong.is at (put (goal.at.returns-in-TooLong c).After-write))

@@ -1,0 +1,18 @@
+-- `walk` meets its contract. The invariant: the whole run is the run from here on, and no byte is added or lost. Assumes nothing.
+use Prim.Native.Nat.{◌-◌}
+use mathlib.Core.Path.{◌≡◌}
+use lib.ListN.{length}
+use Rattle.accesses.specs.Access.{lookup_of}
+use Rattle.replay.specs.Run.{run_from}
+use Rattle.perform.specs.Codes.{codes}
+use Rattle.instructions.specs.Instruction.{instruction_at}
+use Rattle.replay.proofs.runs.walk.Given as goal
+
+abbrev pub invariant-loop-k : goal.invariant-loop-k
+invariant-loop-k l =
+    (run_from codes (lookup_of l.pages l.initial.bytes) (instruction_at l.words) 0 l.listed l.initial.state l.initial.bytes
+    ≡ run_from codes (lookup_of l.pages l.initial.bytes) (instruction_at l.words) l.k (l.listed - l.k) l.state l.bytes)
+    × (length l.bytes ≡ length l.initial.bytes) × (lookup_of l.pages l.bytes ≡ lookup_of l.pages l.initial.bytes)
+
+abbrev pub decreases-loop-k : goal.decreases-loop-k
+decreases-loop-k l = l.listed - l.k

@@ -1,0 +1,85 @@
+-- `scan_pages` meets its contract. The invariant: the pages counted and those from here on are all of them. Assumes nothing.
+use Prim.Native.Nat.{◌+◌, ◌-◌, ◌≤◌}
+use mathlib.Core.Path.{◌≡◌, sym, ◌∙◌}
+use mathlib.Core.Bool.{true}
+use mathlib.Core.List.{List}
+use native.Mathlib.Omega.{arith}
+use lib.ListN.{length, take, drop}
+use Rattle.order.proofs.Laws.{number_room}
+use Rattle.texts.specs.Digits.{Below}
+use Rattle.texts.specs.Fields.{lines, begins}
+use Rattle.sheet.specs.Lines.{form, width}
+use Rattle.sheet.specs.Reading.{page_count}
+use Rattle.sheet.specs.declared.line.Line.TheVariants.{Page}
+use Rattle.sheet.proofs.LineLaws.{values_below}
+use Rattle.sheet_read.specs.Scan.{Found}
+use Rattle.sheet_read.proofs.Places.{line_past}
+use Rattle.sheet_read.proofs.Pages.{stage}
+use Rattle.sheet_read.proofs.Bodies.{found}
+use Rattle.sheet_read.proofs.Stages.{counted_turn, counted_end, page_turn, page_low, page_end, lead_pages}
+use Rattle.sheet_read.proofs.scan.scan_pages.Goals.{At-loop-number, In-loop-number}
+use Rattle.sheet_read.proofs.scan.scan_pages.Goals as goal
+
+abbrev text : At-loop-number → List ℕ
+text c = c.args.text.now
+
+-- none is left to count: these are the pages
+counted : (c : At-loop-number) →
+    let at = c.args.at in
+    page_count c.loop-number.least (lines (drop c.loop-number.here (text c))) ≡ 0
+    → Found Page (page_count 0 (lines (drop at (text c)))) (text c) at (stage at c.loop-number.n)
+counted c none = found Page _ (text c) _ _ c.requires (counted_end _ c.loop-number.invariant.0 none) (lead_pages 0 _)
+
+-- a page line stands here
+begun : (c : In-loop-number) →
+    begins (form Page) (drop c.loop-number.here (text (TODO c).At-loop-number)) ≡ true
+begun c = sym c.stands.ensures ∙ c.loop-number-test.true
+
+past : (c : In-loop-number) →
+    c.loop-number.here + width Page ≤ length (text (TODO c).At-loop-number)
+past c =
+    line_past Page (text (TODO c).At-loop-number) c.loop-number.here (begun c)
+
+-- TODO
+add-least : tie.Need-overflow-add-least invariant-loop decreases-loop
+unfolding Below
+add-least c =
+    let after-field = c.before.before in
+    let at-loop = after-field.before.before.before in
+    let small = number_room _ (values_below Page (take (width Page) (drop at-loop.loop.here (text at-loop))) 0) in
+    rw (c.before.page_number_lem.ensures, after-field.field.ensures) (omega (arith, small))
+
+-- TODO
+add-n : tie.Need-overflow-add-n invariant-loop decreases-loop
+add-n c = omega (arith, past c.before.before.before)
+
+pub loop-number-init : goal.loop-number-init
+loop-number-init c = (omega arith, omega arith)
+
+pub field-requires : goal.field-requires
+field-requires c = (begun c, omega arith)
+
+pub returns-then-number-least : goal.returns-then-number-least
+returns-then-number-least c =
+    counted (goal.at.returns-then-number-least c).At-loop-number
+    (page_low (text (goal.at.returns-then-number-least c).At-loop-number) c.loop-number.here _ _ (begun (goal.at.returns-then-number-least c).In-loop-number) c.field.ensures (rw c.page_number-number.ensures at c.if-number-least.true))
+
+pub past-here-requires : goal.past-here-requires
+past-here-requires c = omega (arith, past (goal.at.past-here-requires c).In-loop-number)
+
+pub loop-number-smaller : goal.loop-number-smaller
+loop-number-smaller c = omega (arith, past (goal.at.loop-number-smaller c).In-loop-number, c.past-here.ensures)
+
+pub loop-number-preserved : goal.loop-number-preserved
+loop-number-preserved c =
+    rw (c.past-here.ensures, c.page_number-number.ensures)
+    ((
+      counted_turn _ _ _ c.loop-number.invariant.0
+          (page_turn (text (goal.at.loop-number-preserved c).At-loop-number) c.loop-number.here _ _ (begun (goal.at.loop-number-preserved c).In-loop-number) c.field.ensures
+          (rw c.page_number-number.ensures at c.if-number-least.false)),
+      omega arith,
+    ))
+
+pub returns : goal.returns
+returns c =
+    counted (goal.at.returns c).At-loop-number (page_end (text (goal.at.returns c).At-loop-number) c.loop-number.here _ (sym c.stands.ensures ∙ c.loop-number-test.false))

@@ -1,0 +1,57 @@
+-- `scan_plain` meets its contract. The invariant: the lines counted and those from here on are all of them. Assumes nothing.
+use Prim.Native.Nat.{◌+◌, ◌-◌, ◌≤◌}
+use mathlib.Core.Path.{◌≡◌, sym, ◌∙◌}
+use mathlib.Core.Bool.{true}
+use mathlib.Core.List.{List}
+use native.Mathlib.Omega.{arith}
+use lib.ListN.{length, drop}
+use Rattle.texts.specs.Fields.{begins}
+use Rattle.sheet.specs.Lines.{form, width}
+use Rattle.sheet.specs.declared.line.Line.{Line}
+use Rattle.sheet_read.proofs.Places.{line_past}
+use Rattle.sheet_read.proofs.Stages.{counted_turn, counted_end, plain_turn, plain_end, lead_plain}
+use Rattle.sheet_read.proofs.Bodies.{found}
+use Rattle.sheet_read.proofs.scan.scan_plain.Goals.{At-loop-line, In-loop-line}
+use Rattle.sheet_read.proofs.scan.scan_plain.Goals as goal
+
+abbrev text : At-loop-line → List ℕ
+text c = c.args.text.now
+
+abbrev kind : At-loop-line → Line
+kind c = c.args.line
+
+-- a line of the kind stands here
+begun : (c : In-loop-line) →
+    begins (form (kind (TODO c).At-loop-line)) (drop c.loop-line.here (text (TODO c).At-loop-line)) ≡ true
+begun c = sym c.stands.ensures ∙ c.loop-line-test.true
+
+past : (c : In-loop-line) →
+    c.loop-line.here + width (kind (TODO c).At-loop-line) ≤ length (text (TODO c).At-loop-line)
+past c =
+    line_past (kind (TODO c).At-loop-line) (text (TODO c).At-loop-line) c.loop-line.here (begun c)
+
+-- TODO
+add-n : tie.Need-overflow-add-n invariant-loop decreases-loop
+add-n c = omega (arith, past c)
+
+-- TODO
+add-here : tie.Need-overflow-add-here invariant-loop decreases-loop
+add-here c = omega (arith, past c.before, c.width.ensures)
+
+pub loop-line-init : goal.loop-line-init
+loop-line-init c = (omega arith, omega arith)
+
+pub loop-line-smaller : goal.loop-line-smaller
+loop-line-smaller c = omega (arith, past (goal.at.loop-line-smaller c).In-loop-line, c.width-here.ensures)
+
+pub loop-line-preserved : goal.loop-line-preserved
+loop-line-preserved c = (
+  rw c.width-here.ensures (counted_turn _ _ _ c.loop-line.invariant.0 (plain_turn (kind (goal.at.loop-line-preserved c).At-loop-line) (text (goal.at.loop-line-preserved c).At-loop-line) c.loop-line.here (begun (goal.at.loop-line-preserved c).In-loop-line))),
+  omega (arith, c.width-here.ensures),
+)
+
+pub returns : goal.returns
+returns c =
+    found (kind (goal.at.returns c).At-loop-line) _ (text (goal.at.returns c).At-loop-line) _ _ c.requires
+    (counted_end _ c.loop-line.invariant.0 (plain_end (kind (goal.at.returns c).At-loop-line) (text (goal.at.returns c).At-loop-line) c.loop-line.here (sym c.stands.ensures ∙ c.loop-line-test.false)))
+    (lead_plain (kind (goal.at.returns c).At-loop-line) _)

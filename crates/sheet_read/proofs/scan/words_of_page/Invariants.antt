@@ -1,0 +1,16 @@
+-- `words_of_page` meets its contract. The invariant: the lines counted and those of the values from here on are all of them. Assumes nothing.
+use Prim.Native.Nat.{◌+◌, ◌-◌, ◌*◌, ◌≤◌}
+use mathlib.Core.Path.{◌≡◌}
+use lib.ListN.{length, drop}
+use Rattle.texts.specs.Fields.{lines}
+use Rattle.sheet.specs.Sheets.{slots}
+use Rattle.sheet_read.specs.Scan.{slot_count}
+use Rattle.sheet_read.proofs.scan.words_of_page.Given as goal
+
+abbrev pub invariant-loop-slot : goal.invariant-loop-slot
+invariant-loop-slot l =
+    (slot_count l.base slots (lines (drop l.at l.text)) ≡ l.n + slot_count (l.base + 8 * l.slot) (slots - l.slot) (lines (drop l.here l.text))) × (l.here ≤ length l.text)
+    × (l.n ≤ l.slot) × (l.slot ≤ slots)
+
+abbrev pub decreases-loop-slot : goal.decreases-loop-slot
+decreases-loop-slot l = slots - l.slot

@@ -1,0 +1,12 @@
+-- `digit` meets its contract. Assumes nothing.
+use Rattle.texts.specs.Digits.{digit}
+use borrow.Author.Tests.{lt-ltb, le-ltb}
+use Rattle.texts.proofs.digits.digit.Goals as goal
+
+pub returns-then-d-lt10 : goal.returns-then-d-lt10
+unfolding digit
+returns-then-d-lt10 c = rw (lt-ltb _ 10 c.if-d-lt10.true)
+
+pub returns-else-d-lt10 : goal.returns-else-d-lt10
+unfolding digit
+returns-else-d-lt10 c = rw (le-ltb _ 10 c.if-d-lt10.false)
