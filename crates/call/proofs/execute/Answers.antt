@@ -23,7 +23,7 @@ past c = rw (← new_sp_lem (TODO c).After-minus-sp) (sym c.runs_past.ensures)
 
 fits : (c : After-store_all) → runs_past c.args.state (new_sp c.args.state) ≡ false
 fits c =
-    past (TODO c).After-runs_past ∙ c.if-runs_past.left
+    past (TODO c).After-runs_past ∙ c.if-runs_past.false
 
 -- where addresses lead, and the pushes as the definition has them
 abbrev led : After-store_all → Lookup

@@ -42,13 +42,13 @@ returns-then-a-ne0 c =
 pub returns-then-not-good_token : goal.returns-then-not-good_token
 returns-then-not-good_token c =
     rw (c.fail-then-not-good_token.ensures, c.control_fault.ensures)
-    (sym (bad_token _ _ _ _ _ (is_usable (goal.at.returns-then-not-good_token c).Else-not-usable) c.if-a-ne0.left _ (found (goal.at.returns-then-not-good_token c).After-load ∙ c.in-Value.is)
+    (sym (bad_token _ _ _ _ _ (is_usable (goal.at.returns-then-not-good_token c).Else-not-usable) c.if-a-ne0.false _ (found (goal.at.returns-then-not-good_token c).After-load ∙ c.in-Value.is)
     (sym c.good_token.ensures ∙ c.if-not-good_token.true)))
 
 pub returns-in-Blocked : goal.returns-in-Blocked
 returns-in-Blocked c =
     rw (c.fail-in-Blocked.ensures, c.blame.ensures, c.shadow-access.ensures)
-    (sym (blocked _ _ _ _ _ (is_usable (goal.at.returns-in-Blocked c).Else-not-usable) c.if-a-ne0.left _ (found (goal.at.returns-in-Blocked c).After-load ∙ c.in-Blocked.is)))
+    (sym (blocked _ _ _ _ _ (is_usable (goal.at.returns-in-Blocked c).Else-not-usable) c.if-a-ne0.false _ (found (goal.at.returns-in-Blocked c).After-load ∙ c.in-Blocked.is)))
 
 pub returns-else-not-good_token : goal.returns-else-not-good_token
 returns-else-not-good_token c =
@@ -63,5 +63,5 @@ returns-else-not-good_token c =
       c.long_bit.ensures,
       store_done _ _ _ _ (loaded_value _ _ _ _ value).0,
     )
-    (sym (restored _ _ _ _ _ (is_usable (goal.at.returns-else-not-good_token c).Else-not-usable) c.if-a-ne0.left _ value
+    (sym (restored _ _ _ _ _ (is_usable (goal.at.returns-else-not-good_token c).Else-not-usable) c.if-a-ne0.false _ value
     (sym c.good_token.ensures ∙ c.if-not-good_token.false)))

@@ -32,9 +32,9 @@ returns-then-state-ne0 c =
 pub returns-in-Blocked : goal.returns-in-Blocked
 returns-in-Blocked c =
     rw (c.fail-in-Blocked.ensures, c.blame.ensures, c.shadow-access.ensures)
-    (sym (blocked _ _ _ _ (is_usable (goal.at.returns-in-Blocked c).Else-not-usable) c.if-state-ne0.left _ (found (goal.at.returns-in-Blocked c).After-load ∙ c.in-Blocked.is)))
+    (sym (blocked _ _ _ _ (is_usable (goal.at.returns-in-Blocked c).Else-not-usable) c.if-state-ne0.false _ (found (goal.at.returns-in-Blocked c).After-load ∙ c.in-Blocked.is)))
 
 pub returns-in-Value : goal.returns-in-Value
 returns-in-Value c =
     c.leave_token.ensures
-    ∙ sym (popped _ _ _ _ (is_usable (goal.at.returns-in-Value c).Else-not-usable) c.if-state-ne0.left _ (found (goal.at.returns-in-Value c).After-load ∙ c.in-Value.is))
+    ∙ sym (popped _ _ _ _ (is_usable (goal.at.returns-in-Value c).Else-not-usable) c.if-state-ne0.false _ (found (goal.at.returns-in-Value c).After-load ∙ c.in-Value.is))
