@@ -8,4 +8,4 @@ returns c =
     let args = c.args in
     c.wrap.ensures
     ∙ minus_wraps args.self args.a args.b c.wrapping_sub_u64.result
-    c.wrapping_sub_u64.ensures
+    c.wrapping_sub_u64.ensures.value

@@ -7,4 +7,4 @@ use Rattle.addresses.proofs.address.Width.plus.Goals as goal
 pub returns : goal.returns
 returns c =
     let args = c.args in
-    c.wrap.ensures ∙ ap (wrapped args.self) c.wrapping_add_u64.ensures ∙ plus_wraps args.self args.a args.b
+    c.wrap.ensures ∙ ap (wrapped args.self) c.wrapping_add_u64.ensures.value ∙ plus_wraps args.self args.a args.b
