@@ -3,9 +3,8 @@ use native.Mathlib.Omega.{arith}
 use Rattle.driftpocket.proofs.Laws.{small_vector}
 use Rattle.driftpocket.proofs.number.Goals as goal
 
--- TODO
-add-result : tie.Need-overflow-add-result
-add-result c = let e = c.number2.ensures in let h = small_vector c.before.before.answer2.given.0.0.vector in omega arith
+pub overflow_add-result : goal.overflow_add-result
+overflow_add-result c = let e = c.number-in-Faulted.ensures in let h = small_vector c.in-Faulted.fault.vector in omega arith
 
 pub returns-in-Faulted : goal.returns-in-Faulted
 returns-in-Faulted c = rw (c.in-Faulted.is, c.number-in-Faulted.ensures)

@@ -44,27 +44,24 @@ last : (c : After-load-in-Value) →
     ≡ c.load-in-Value.result
 last c = rw (← last_is (TODO c).After-shadow-last) (sym c.load-in-Value.ensures)
 
--- TODO
-mul-plus : tie.Need-overflow-mul-plus
-mul-plus c =
-    let args = c.before.before.before.before.before.args in
-    rw c.bytes.ensures (record { fits = product args.size (args.b % 256) (omega arith) })
-
--- TODO
-mul-plus-2 : tie.Need-overflow-mul-plus-2
-mul-plus-2 c =
-    let way = way-else2 c in
-    rw way.after-bytes.bytes.ensures (record { fits = product way.start.args.size (way.start.args.b % 256 - 1) (omega arith) })
-
 pub returns-then-not-usable : goal.returns-then-not-usable
 returns-then-not-usable c =
     rw (c.fail.ensures, c.fault.ensures)
     (sym (not_usable _ _ _ _ _ _ (sym c.usable.ensures ∙ c.if-not-usable.true)))
 
+pub overflow_mul-plus : goal.overflow_mul-plus
+overflow_mul-plus c =
+    let args = c.args in
+    rw c.bytes-n.ensures (record { fits = product args.size (args.b % 256) (omega arith) })
+
 pub returns-then-range-eq0 : goal.returns-then-range-eq0
 returns-then-range-eq0 c =
     rw (c.shift.ensures, c.next.ensures, new_ssp_lem (goal.at.returns-then-range-eq0 c).After-plus-ssp)
     (sym (none _ _ _ _ _ _ (is_usable (goal.at.returns-then-range-eq0 c).Else-not-usable) _ (first (goal.at.returns-then-range-eq0 c).After-load ∙ c.in-Value.is) c.if-range-eq0.true))
+
+pub overflow_mul-plus-2 : goal.overflow_mul-plus-2
+overflow_mul-plus-2 c =
+    rw c.bytes-n.ensures (record { fits = product c.args.size (c.args.b % 256 - 1) (omega arith) })
 
 pub returns-in-Blocked : goal.returns-in-Blocked
 returns-in-Blocked c =

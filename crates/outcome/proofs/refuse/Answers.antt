@@ -1,5 +1,5 @@
 -- `refuse` meets its contract: a line, and nothing of a sheet. Assumes nothing.
-use mathlib.Core.List.{◌∷◌, append-nil}
+use mathlib.Core.List.{[], ◌∷◌, append-nil}
 use mathlib.Core.Path.{refl, ◌∙◌}
 use native.Mathlib.Omega.{arith}
 use Rattle.outcome.specs.Outcome.{refused_word, refused_line}

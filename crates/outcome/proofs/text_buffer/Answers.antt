@@ -1,4 +1,5 @@
 -- `text_buffer` meets its contract. Assumes nothing.
+use Prim.Native.Nat.{ℕ}
 use mathlib.Core.Path.{sym}
 use lib.ListN.{length-replicate}
 use Rattle.outcome.proofs.text_buffer.Goals as goal

@@ -1,4 +1,5 @@
 -- `ret::execute` meets its contract: each return cites the way through the definition that leads to it. Assumes nothing.
+use Prim.Native.Nat.{ℕ}
 use mathlib.Core.Path.{◌≡◌, sym, ◌∙◌, ap}
 use mathlib.Core.Bool.{false}
 use Rattle.pages.specs.Pages.{Lookup}

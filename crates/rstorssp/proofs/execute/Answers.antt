@@ -23,12 +23,6 @@ found : (c : After-load) →
     load_at (lookup_of args.pages.now args.bytes.now) args.bytes.now (shadow args.state args.a Eight true) ≡ c.load.result
 found c = rw (← c.shadow-access.ensures) (sym c.load.ensures)
 
--- TODO
-add-plus : tie.Need-overflow-add-plus
-add-plus c =
-    let after-load = c.before.before.before.before.before.before in
-    omega (arith, c.long-bit.ensures, long_small (way-load after-load).start.args.state)
-
 pub returns-then-not-usable : goal.returns-then-not-usable
 returns-then-not-usable c =
     rw (c.fail.ensures, c.fault.ensures)
@@ -44,6 +38,10 @@ returns-then-not-good_token c =
     rw (c.fail-then-not-good_token.ensures, c.control_fault.ensures)
     (sym (bad_token _ _ _ _ _ (is_usable (goal.at.returns-then-not-good_token c).Else-not-usable) c.if-a-ne0.false _ (found (goal.at.returns-then-not-good_token c).After-load ∙ c.in-Value.is)
     (sym c.good_token.ensures ∙ c.if-not-good_token.true)))
+
+pub overflow_add-plus : goal.overflow_add-plus
+overflow_add-plus c =
+    omega (arith, c.long_bit.ensures, long_small c.args.state)
 
 pub returns-in-Blocked : goal.returns-in-Blocked
 returns-in-Blocked c =

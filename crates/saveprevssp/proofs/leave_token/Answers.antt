@@ -1,4 +1,5 @@
 -- `leave_token` meets its contract: each return cites the way through the definition that leads to it. Assumes nothing.
+use Prim.Native.Nat.{ℕ}
 use mathlib.Core.Path.{◌≡◌, sym, ◌∙◌, ap}
 use mathlib.Core.Bool.{true}
 use mathlib.Core.List.{List}
@@ -51,18 +52,15 @@ stored c =
     )
     at c.store_all.ensures
 
--- TODO
-add-restore : tie.Need-overflow-add-restore
-add-restore c =
-    let else1 = c.before.before.before.before.before in
-    let start = from-test else1 in
-    omega (arith, c.long-bit.ensures, long_small start.args.state, start.fits.token)
-
 pub returns-then-not-saved_token : goal.returns-then-not-saved_token
 returns-then-not-saved_token c =
     rw (c.fail-then-not-saved_token.ensures, c.fault.ensures)
     (sym (not_saved _ _ _ _ _ _ (went (goal.at.returns-then-not-saved_token c).After-new_top _ c.in-Top.is)
     (sym c.saved_token.ensures ∙ c.if-not-saved_token.true)))
+
+pub overflow_add-restore : goal.overflow_add-restore
+overflow_add-restore c =
+    omega (arith, c.long_bit.ensures, long_small c.args.state, c.fits.token)
 
 pub returns-in-Failed : goal.returns-in-Failed
 returns-in-Failed c =

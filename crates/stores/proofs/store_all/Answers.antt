@@ -1,6 +1,7 @@
 -- `store_all` meets its contract. The invariants of its loops are `Trying` and `Making`, and each way out of a loop or round it is a law of those.
 -- The measure is how many slots are left. Assumes nothing.
 use Prim.Native.Nat.{◌-◌, ◌≤◌}
+use mathlib.Core.Logic.{⊎_elim}
 use mathlib.Core.Path.{refl, sym, ◌∙◌}
 use native.Mathlib.Omega.{arith}
 use lib.ListN.{length}

@@ -1,5 +1,5 @@
 -- `displacement` meets its contract: below 2^31 the number itself, else less 2^32. Assumes nothing.
-use Prim.Native.Nat.{◌%◌, ◌^◌, ◌<◌}
+use Prim.Native.Nat.{ℕ, ◌%◌, ◌^◌, ◌<◌}
 use mathlib.Core.Path.{◌∙◌}
 use native.Mathlib.Omega.{arith}
 use borrow.Author.Tests.{lt-ltb, le-ltb}
@@ -15,12 +15,11 @@ low a = omega arith
 below_32 : (a : ℕ) → a % 2 ^ 32 < 2 ^ 32
 below_32 a = omega arith
 
--- TODO
-sub-result : tie.Need-overflow-sub-result
-sub-result c =
+pub overflow_sub-result : goal.overflow_sub-result
+overflow_sub-result c =
     rw (
-      to_z_pos w64 (c.before.args.a % 2 ^ 32) (low c.before.args.a),
-      wrapped (c.before.args.a % 2 ^ 32) (below_32 c.before.args.a),
+      to_z_pos w64 (c.args.a % 2 ^ 32) (low c.args.a),
+      wrapped (c.args.a % 2 ^ 32) (below_32 c.args.a),
     )
     (record { sfits = omega arith })
 

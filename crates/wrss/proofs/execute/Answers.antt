@@ -31,10 +31,6 @@ tried : (c : After-store) →
     probe (lookup_of args.pages.now args.bytes.now) (shadow args.state args.a args.size true) ≡ c.store.result
 tried c = rw (← c.shadow-access.ensures) (sym c.store.ensures.value)
 
--- TODO
-rem-if3 : tie.Need-nonzero-rem-if3
-rem-if3 c = rw c.bytes.ensures (some_bytes (way-else2 c.before).start.args.size)
-
 pub returns-then-not-usable : goal.returns-then-not-usable
 returns-then-not-usable c =
     rw (c.fail.ensures, c.fault.ensures)
@@ -44,6 +40,9 @@ pub returns-then-not-permitted : goal.returns-then-not-permitted
 returns-then-not-permitted c =
     rw (c.fail-then-not-permitted.ensures, c.fault-then-not-permitted.ensures)
     (sym (not_permitted_lem _ _ _ _ _ _ _ _ (is_usable (goal.at.returns-then-not-permitted c).Else-not-usable) (c.if-not-permitted.true)))
+
+pub nonzero_rem-if3 : goal.nonzero_rem-if3
+nonzero_rem-if3 c = rw c.bytes.ensures (some_bytes c.args.size)
 
 pub returns-then-a-bytes-ne0 : goal.returns-then-a-bytes-ne0
 returns-then-a-bytes-ne0 c =

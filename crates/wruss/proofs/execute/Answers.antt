@@ -27,10 +27,6 @@ tried : (c : After-store) →
     probe (lookup_of args.pages.now args.bytes.now) (user_store args.state args.a args.size) ≡ c.store.result
 tried c = rw (← c.user_store-access.ensures) (sym c.store.ensures.value)
 
--- TODO
-rem-if3 : tie.Need-nonzero-rem-if3
-rem-if3 c = rw c.bytes.ensures (some_bytes (way-bytes c).start.args.size)
-
 pub returns-then-not-recognised : goal.returns-then-not-recognised
 returns-then-not-recognised c =
     rw (c.fail.ensures, c.fault.ensures)
@@ -40,6 +36,9 @@ pub returns-then-state-ne0 : goal.returns-then-state-ne0
 returns-then-state-ne0 c =
     rw (c.fail-then-state-ne0.ensures, c.fault-then-state-ne0.ensures)
     (sym (not_kernel _ _ _ _ _ _ _ (is_recognised (goal.at.returns-then-state-ne0 c).Else-not-recognised) c.if-state-ne0.true))
+
+pub nonzero_rem-if3 : goal.nonzero_rem-if3
+nonzero_rem-if3 c = rw c.bytes.ensures (some_bytes c.args.size)
 
 pub returns-then-a-bytes-ne0 : goal.returns-then-a-bytes-ne0
 returns-then-a-bytes-ne0 c =

@@ -1,5 +1,5 @@
 -- `number` meets its contract. The invariant is `Built`: the value holds the bytes from `left` on, and is small enough for one more. The measure is `left`. Assumes nothing.
-use Prim.Native.Nat.{◌-◌, ◌^◌, ◌<◌}
+use Prim.Native.Nat.{ℕ, ◌-◌, ◌^◌, ◌<◌}
 use mathlib.Core.Path.{◌∙◌, ap}
 use native.Mathlib.Omega.{arith}
 use lib.ListN.{length}
@@ -16,16 +16,14 @@ small c =
     let most = at_most_eight c.args.size in
     room c.loop-left.value (n - c.loop-left.left) (rw c.bytes-left.ensures (omega arith)) c.loop-left.invariant.below
 
--- TODO
-mul-value : tie.Need-overflow-mul-value invariant-loop decreases-loop
-mul-value c = omega (arith, small c.before.before)
-
--- TODO
-add-value : tie.Need-overflow-add-value invariant-loop decreases-loop
-add-value c = omega (arith, small c.before.before.before, c.before.byte_at.type-inv)
-
 pub loop-left-init : goal.loop-left-init
 loop-left-init c = built_none _ _ _ _ _
+
+pub overflow_mul-value : goal.overflow_mul-value
+overflow_mul-value c = omega (arith, small c)
+
+pub overflow_add-value : goal.overflow_add-value
+overflow_add-value c = omega (arith, small c, c.byte_at-byte.type-inv)
 
 pub loop-left-preserved : goal.loop-left-preserved
 loop-left-preserved c =

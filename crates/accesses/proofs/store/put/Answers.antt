@@ -5,15 +5,13 @@ use Rattle.accesses.proofs.Parts.{put_in}
 use Rattle.accesses.proofs.Spots.{spot_page}
 use Rattle.accesses.proofs.store.put.Goals as goal
 
--- TODO
-add-end : tie.Need-overflow-add-end
-add-end c =
-    omega (arith, spot_page _ _ _ _ _ (sym c.before.before.before.find.ensures ∙ c.before.place.given.1))
+pub overflow_add-end : goal.overflow_add-end
+overflow_add-end c =
+    omega (arith, spot_page _ _ _ _ _ (sym c.find.ensures ∙ c.in-At.is))
 
--- TODO
-part-put-in-page-end : tie.Need-slice-bounds-put-in-page-end
-part-put-in-page-end c =
-    spot_page _ _ _ _ _ (sym c.before.before.before.find.ensures ∙ c.before.place.given.1)
+pub slice_bounds-put-in-page-end : goal.slice_bounds-put-in-page-end
+slice_bounds-put-in-page-end c =
+    spot_page _ _ _ _ _ (sym c.find.ensures ∙ c.in-At.is)
 
 pub returns-in-Unlisted : goal.returns-in-Unlisted
 returns-in-Unlisted c = rw (sym c.find.ensures ∙ c.in-Unlisted.is)

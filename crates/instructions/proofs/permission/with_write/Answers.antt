@@ -3,10 +3,9 @@ use native.Mathlib.Omega.{arith}
 use Rattle.instructions.specs.Permission.{write_bit, without_write}
 use Rattle.instructions.proofs.permission.with_write.Goals as goal
 
--- TODO
-add-result : tie.Need-overflow-add-result
+pub overflow_add-result : goal.overflow_add-result
 unfolding write_bit without_write
-add-result c = let d = c.before.without-write.ensures in let e = c.write-bit.ensures in omega arith
+overflow_add-result c = let d = c.without_write.ensures in let e = c.write_bit.ensures in omega arith
 
 pub returns : goal.returns
 returns c = rw (c.without_write.ensures, c.write_bit.ensures)

@@ -3,10 +3,9 @@ use native.Mathlib.Omega.{arith}
 use Rattle.instructions.specs.Permission.{write_bit, without_write}
 use Rattle.instructions.proofs.permission.without_write.Goals as goal
 
--- TODO
-sub-result : tie.Need-overflow-sub-result
+pub overflow_sub-result : goal.overflow_sub-result
 unfolding write_bit
-sub-result c = let e = c.write-bit.ensures in omega arith
+overflow_sub-result c = let e = c.write_bit.ensures in omega arith
 
 pub returns : goal.returns
 unfolding without_write

@@ -3,9 +3,8 @@ use mathlib.Core.Path.{refl}
 use native.Mathlib.Omega.{arith}
 use Rattle.numbers.proofs.loads.byte.Goals as goal
 
--- TODO
-cast-result : tie.Need-overflow-cast-result
-cast-result c = omega (arith, c.shared-slice-known.given c.before.args.at)
+pub overflow_cast-result : goal.overflow_cast-result
+overflow_cast-result c = omega (arith, c.type_inv.bytes c.args.at)
 
 pub returns : goal.returns
 returns c = (refl, omega (arith, c.type_inv.bytes c.args.at))

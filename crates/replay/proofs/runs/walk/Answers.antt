@@ -1,5 +1,5 @@
 -- `walk` meets its contract. The invariant: the whole run is the run from here on, and no byte is added or lost. Assumes nothing.
-use Prim.Native.Nat.{◌-◌, ◌/◌}
+use Prim.Native.Nat.{ℕ, ◌-◌, ◌/◌}
 use mathlib.Core.Path.{◌≡◌, refl, sym, ◌∙◌}
 use native.Mathlib.Omega.{arith}
 use lib.ListN.{length}
@@ -14,10 +14,6 @@ use Rattle.instructions.specs.Instruction.{instruction_at}
 use Rattle.replay.proofs.RunLaws.{goes_on, ends, at_end}
 use Rattle.replay.proofs.runs.walk.Goals.{After-bytes-1}
 use Rattle.replay.proofs.runs.walk.Goals as goal
-
--- TODO
-add-k : tie.Need-overflow-add-k invariant-loop decreases-loop
-add-k c = let h = c.before.before.before.before.before.before.before.before.loop-test.true in omega arith
 
 -- what the instruction gave, with the bytes that it left
 abbrev this : After-bytes-1 → Step
@@ -45,6 +41,9 @@ loop-k-init c = let whole : (n : ℕ) → n - 0 ≡ n = λ n. omega arith in
 
 pub nth-requires : goal.nth-requires
 nth-requires c = let h = c.loop-k-test.true in omega arith
+
+pub overflow_add-k : goal.overflow_add-k
+overflow_add-k c = let h = c.loop-k-test.true in omega arith
 
 pub loop-k-smaller : goal.loop-k-smaller
 loop-k-smaller c =

@@ -1,5 +1,5 @@
 -- `judge` meets its contract: the tests are those of a run, on the entries that were copied. Assumes nothing.
-use Prim.Native.Nat.{◌*◌}
+use Prim.Native.Nat.{ℕ, ◌*◌}
 use mathlib.Core.Path.{◌≡◌, sym, ◌∙◌, ap, ap₂}
 use mathlib.Core.Bool.{Bool}
 use mathlib.Core.List.{List}

@@ -15,14 +15,6 @@ less c = rw c.count.ensures at c.loop-i-test.true
 room : (c : After-field) → c.args.to + c.loop-i.i < length c.loop-i.out
 room c = let h = less c in let long = c.loop-i.invariant.1 in let fits = c.pre.1 in omega arith
 
--- TODO
-add-out : tie.Need-overflow-add-out invariant-loop decreases-loop
-add-out c = omega (arith, room c)
-
--- TODO
-add-i : tie.Need-overflow-add-i invariant-loop decreases-loop
-add-i c = omega (arith, room c)
-
 pub loop-i-init : goal.loop-i-init
 loop-i-init c = (rw add-zero, refl)
 
@@ -30,8 +22,14 @@ pub field-requires : goal.field-requires
 field-requires c =
     (c.pre.0, rw c.count.ensures at c.loop-i-test.true)
 
+pub overflow_add-out : goal.overflow_add-out
+overflow_add-out c = omega (arith, room c)
+
 pub bounds-out-to : goal.bounds-out-to
 bounds-out-to c = room c
+
+pub overflow_add-i : goal.overflow_add-i
+overflow_add-i c = omega (arith, room c)
 
 pub loop-i-smaller : goal.loop-i-smaller
 loop-i-smaller c = let h = less c in omega arith

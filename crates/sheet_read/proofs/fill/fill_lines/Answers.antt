@@ -5,7 +5,7 @@ use mathlib.Core.Bool.{true}
 use native.Mathlib.Omega.{arith}
 use lib.ListN.{length, drop}
 use Rattle.texts.specs.Fields.{begins}
-use Rattle.sheet.specs.Lines.{form, field_count, width}
+use Rattle.sheet.specs.Lines.{form, field_count}
 use Rattle.sheet_read.specs.Scan.{numbers_in}
 use Rattle.sheet_read.proofs.Leads.{lead_front, lead_next}
 use Rattle.sheet_read.proofs.Places.{line_past}
@@ -25,20 +25,6 @@ fits c =
     line_fits c.args.line c.args.text.now c.loop-left.here c.loop-left.left c.loop-left-test.true
     c.loop-left.invariant.1 c.loop-left.out c.loop-left.to c.loop-left.invariant.2
 
--- TODO
-add-here : tie.Need-overflow-add-here invariant-loop decreases-loop
-add-here c =
-    let in-loop = c.before.before.before.before.before in
-    let at-loop = in-loop.before in
-    let wide = c.width.ensures in
-    let past = line_past (start at-loop).args.line (start at-loop).args.text.now at-loop.loop.here (front in-loop) in omega arith
-
--- TODO
-add-to : tie.Need-overflow-add-to invariant-loop decreases-loop
-add-to c =
-    let after-fill-line-arg = c.before.before.before.before.before in
-    let few = c.count.ensures in let room = fits after-fill-line-arg in omega arith
-
 more : (c : After-count-to) → 0 < c.loop-left.left
 more c = c.loop-left-test.true
 
@@ -48,6 +34,15 @@ loop-left-init c =
 
 pub fill_line-requires : goal.fill_line-requires
 fill_line-requires c = (front (goal.at.fill_line-requires c).In-loop-left, fits c)
+
+pub overflow_add-here : goal.overflow_add-here
+overflow_add-here c =
+    let wide = c.width-here.ensures in
+    let past = line_past c.args.line c.args.text.now c.loop-left.here (front c) in omega arith
+
+pub overflow_add-to : goal.overflow_add-to
+overflow_add-to c =
+    let few = c.count-to.ensures in let room = fits c in omega arith
 
 pub loop-left-preserved : goal.loop-left-preserved
 loop-left-preserved c = (

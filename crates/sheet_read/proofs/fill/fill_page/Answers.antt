@@ -1,6 +1,6 @@
 -- `fill_page` meets its contract. The invariant: the lines counted and those from here on are all of them, and what is still to be laid,
 -- from here on, gives the whole. Assumes nothing.
-use Prim.Native.Nat.{◌+◌, ◌-◌, ◌*◌, ◌≤◌}
+use Prim.Native.Nat.{ℕ, ◌+◌, ◌-◌, ◌*◌, ◌≤◌}
 use mathlib.Core.Path.{◌≡◌, refl, sym, ◌∙◌}
 use mathlib.Core.List.{List}
 use native.Mathlib.Omega.{arith}
@@ -21,13 +21,6 @@ text c = c.args.text.now
 abbrev base : At-loop-slot → ℕ
 base c = c.page_of-base.result
 
--- TODO
-add-slot-value : tie.Need-overflow-add-slot-value invariant-loop decreases-loop
-add-slot-value c =
-    let base-is = c.before.before.page-of.ensures in
-    let end = page_end _ (start c.before).fits.entry.fits in
-    omega arith
-
 value_is : (c : After-line_count-found) →
     c.slot_value-value.result
     ≡ slot_value (base (TODO c).At-loop-slot + 8 * c.loop-slot.slot) (lines (drop c.loop-slot.here (text (TODO c).At-loop-slot)))
@@ -40,12 +33,17 @@ few c =
 past : (c : After-line_count-found) → c.loop-slot.here + width Word * c.line_count-found.result ≤ length (text (TODO c).At-loop-slot)
 past c = slot_end (text (TODO c).At-loop-slot) c.loop-slot.here (base (TODO c).At-loop-slot) c.loop-slot.slot _ _ (value_is c) c.line_count-found.ensures c.loop-slot.invariant.2
 
--- TODO
-add-n : tie.Need-overflow-add-n invariant-loop decreases-loop
-add-n c = omega (arith, few c)
-
 pub loop-slot-init : goal.loop-slot-init
 loop-slot-init c = (count_start _ _, slot_start _ _ _ _, omega arith, omega arith, omega arith, refl)
+
+pub overflow_add-slot-value : goal.overflow_add-slot-value
+overflow_add-slot-value c =
+    let base-is = c.page_of-base.ensures in
+    let end = page_end _ c.fits.entry.fits in
+    omega arith
+
+pub overflow_add-n : goal.overflow_add-n
+overflow_add-n c = omega (arith, few c)
 
 pub past-here-requires : goal.past-here-requires
 past-here-requires c = omega (arith, past c)

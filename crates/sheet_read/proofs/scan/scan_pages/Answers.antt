@@ -1,5 +1,5 @@
 -- `scan_pages` meets its contract. The invariant: the pages counted and those from here on are all of them. Assumes nothing.
-use Prim.Native.Nat.{◌+◌, ◌-◌, ◌≤◌}
+use Prim.Native.Nat.{ℕ, ◌+◌, ◌-◌, ◌≤◌}
 use mathlib.Core.Path.{◌≡◌, sym, ◌∙◌}
 use mathlib.Core.Bool.{true}
 use mathlib.Core.List.{List}
@@ -40,19 +40,6 @@ past : (c : In-loop-number) →
 past c =
     line_past Page (text (TODO c).At-loop-number) c.loop-number.here (begun c)
 
--- TODO
-add-least : tie.Need-overflow-add-least invariant-loop decreases-loop
-unfolding Below
-add-least c =
-    let after-field = c.before.before in
-    let at-loop = after-field.before.before.before in
-    let small = number_room _ (values_below Page (take (width Page) (drop at-loop.loop.here (text at-loop))) 0) in
-    rw (c.before.page_number_lem.ensures, after-field.field.ensures) (omega (arith, small))
-
--- TODO
-add-n : tie.Need-overflow-add-n invariant-loop decreases-loop
-add-n c = omega (arith, past c.before.before.before)
-
 pub loop-number-init : goal.loop-number-init
 loop-number-init c = (omega arith, omega arith)
 
@@ -63,6 +50,15 @@ pub returns-then-number-least : goal.returns-then-number-least
 returns-then-number-least c =
     counted (goal.at.returns-then-number-least c).At-loop-number
     (page_low (text (goal.at.returns-then-number-least c).At-loop-number) c.loop-number.here _ _ (begun (goal.at.returns-then-number-least c).In-loop-number) c.field.ensures (rw c.page_number-number.ensures at c.if-number-least.true))
+
+pub overflow_add-least : goal.overflow_add-least
+unfolding Below
+overflow_add-least c =
+    let small = number_room _ (values_below Page (take (width Page) (drop c.loop-number.here (text c))) 0) in
+    rw (c.page_number-number.ensures, c.field.ensures) (omega (arith, small))
+
+pub overflow_add-n : goal.overflow_add-n
+overflow_add-n c = omega (arith, past c)
 
 pub past-here-requires : goal.past-here-requires
 past-here-requires c = omega (arith, past (goal.at.past-here-requires c).In-loop-number)

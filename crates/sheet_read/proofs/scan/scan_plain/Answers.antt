@@ -1,5 +1,5 @@
 -- `scan_plain` meets its contract. The invariant: the lines counted and those from here on are all of them. Assumes nothing.
-use Prim.Native.Nat.{◌+◌, ◌-◌, ◌≤◌}
+use Prim.Native.Nat.{ℕ, ◌+◌, ◌-◌, ◌≤◌}
 use mathlib.Core.Path.{◌≡◌, sym, ◌∙◌}
 use mathlib.Core.Bool.{true}
 use mathlib.Core.List.{List}
@@ -30,16 +30,14 @@ past : (c : In-loop-line) →
 past c =
     line_past (kind (TODO c).At-loop-line) (text (TODO c).At-loop-line) c.loop-line.here (begun c)
 
--- TODO
-add-n : tie.Need-overflow-add-n invariant-loop decreases-loop
-add-n c = omega (arith, past c)
-
--- TODO
-add-here : tie.Need-overflow-add-here invariant-loop decreases-loop
-add-here c = omega (arith, past c.before, c.width.ensures)
-
 pub loop-line-init : goal.loop-line-init
 loop-line-init c = (omega arith, omega arith)
+
+pub overflow_add-n : goal.overflow_add-n
+overflow_add-n c = omega (arith, past c)
+
+pub overflow_add-here : goal.overflow_add-here
+overflow_add-here c = omega (arith, past c, c.width-here.ensures)
 
 pub loop-line-smaller : goal.loop-line-smaller
 loop-line-smaller c = omega (arith, past (goal.at.loop-line-smaller c).In-loop-line, c.width-here.ensures)

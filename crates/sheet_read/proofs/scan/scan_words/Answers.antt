@@ -1,5 +1,5 @@
 -- `scan_words` meets its contract. The invariant: the lines counted and those of the pages from here on are all of them. Assumes nothing.
-use Prim.Native.Nat.{◌+◌, ◌*◌, ◌≤◌}
+use Prim.Native.Nat.{ℕ, ◌+◌, ◌*◌, ◌≤◌}
 use mathlib.Core.Path.{sym}
 use mathlib.Core.List.{List}
 use native.Mathlib.Nat.{zero-add}
@@ -28,10 +28,6 @@ text c = c.args.text.now
 past : (c : After-words_of_page-found) → c.loop-left.here + width Word * c.words_of_page-found.result ≤ length (text (TODO c).At-loop-left)
 past c = page_end (text (TODO c).At-loop-left) c.loop-left.here c.field.result _ c.words_of_page-found.ensures c.loop-left.invariant.3
 
--- TODO
-add-n : tie.Need-overflow-add-n invariant-loop decreases-loop
-add-n c = omega (arith, past c)
-
 pub loop-left-init : goal.loop-left-init
 loop-left-init c = (sym (zero-add _), c.requires.1, omega arith, c.requires.2, room c)
 
@@ -41,6 +37,9 @@ field-requires c =
 
 pub words_of_page-found-requires : goal.words_of_page-found-requires
 words_of_page-found-requires c = c.loop-left.invariant.3
+
+pub overflow_add-n : goal.overflow_add-n
+overflow_add-n c = omega (arith, past c)
 
 pub past-here-requires : goal.past-here-requires
 past-here-requires c = omega (arith, past c)

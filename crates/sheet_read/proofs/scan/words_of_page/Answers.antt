@@ -1,5 +1,5 @@
 -- `words_of_page` meets its contract. The invariant: the lines counted and those of the values from here on are all of them. Assumes nothing.
-use Prim.Native.Nat.{◌+◌, ◌-◌, ◌*◌, ◌≤◌}
+use Prim.Native.Nat.{ℕ, ◌+◌, ◌-◌, ◌*◌, ◌≤◌}
 use mathlib.Core.List.{List}
 use native.Mathlib.Omega.{arith}
 use lib.ListN.{length}
@@ -16,14 +16,6 @@ text c = c.args.text.now
 abbrev base : At-loop-slot → ℕ
 base c = c.page_of-base.result
 
--- TODO
-add-slot-value : tie.Need-overflow-add-slot-value invariant-loop decreases-loop
-add-slot-value c =
-    let after-page-of = c.before.before in
-    let base-is = after-page-of.page-of.ensures in
-    let end = page_end _ after-page-of.before.before.ranges.entry.fits in
-    omega arith
-
 few : (c : After-line_count-found) → c.line_count-found.result ≤ 1
 few c = rw c.line_count-found.ensures (few_lines c.slot_value.result)
 
@@ -32,12 +24,17 @@ past c =
     slot_end (text (TODO c).At-loop-slot) c.loop-slot.here (base (TODO c).At-loop-slot) c.loop-slot.slot _ _ c.slot_value.ensures
     c.line_count-found.ensures c.loop-slot.invariant.1
 
--- TODO
-add-n : tie.Need-overflow-add-n invariant-loop decreases-loop
-add-n c = omega (arith, few c)
-
 pub loop-slot-init : goal.loop-slot-init
 loop-slot-init c = (count_start _ _, omega arith, omega arith, omega arith)
+
+pub overflow_add-slot-value : goal.overflow_add-slot-value
+overflow_add-slot-value c =
+    let base-is = c.page_of-base.ensures in
+    let end = page_end _ c.ranges.entry.fits in
+    omega arith
+
+pub overflow_add-n : goal.overflow_add-n
+overflow_add-n c = omega (arith, few c)
 
 pub past-here-requires : goal.past-here-requires
 past-here-requires c = omega (arith, past c)

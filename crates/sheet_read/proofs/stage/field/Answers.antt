@@ -17,18 +17,6 @@ inside : (c : After-first) →
 inside c =
     rw c.first.ensures (number_in c.args.line c.args.text.now c.args.at c.requires.0 c.args.i c.requires.1)
 
--- TODO
-add-number : tie.Need-overflow-add-number
-add-number c = omega (arith, inside c)
-
--- TODO
-mul-number : tie.Need-overflow-mul-number
-mul-number c = omega (arith, inside c)
-
--- TODO
-add-number-2 : tie.Need-overflow-add-number-2
-add-number-2 c = omega (arith, inside c)
-
 stands : (c : After-number) →
     let args = c.args in
     c.number.result ≡ Number (value args.line args.i (take (width args.line) (drop args.at args.text.now)))
@@ -36,6 +24,15 @@ stands c =
     let args = c.args in
     c.number.ensures
     ∙ rw c.first.ensures (numeral_at args.line args.text.now args.at c.requires.0 args.i c.requires.1)
+
+pub overflow_add-number : goal.overflow_add-number
+overflow_add-number c = omega (arith, inside c)
+
+pub overflow_mul-number : goal.overflow_mul-number
+overflow_mul-number c = omega (arith, inside c)
+
+pub overflow_add-number-2 : goal.overflow_add-number-2
+overflow_add-number-2 c = omega (arith, inside c)
 
 pub returns-in-Number : goal.returns-in-Number
 returns-in-Number c = number_same (sym (stands (goal.at.returns-in-Number c).After-number) ∙ c.in-Number.is)

@@ -1,5 +1,5 @@
 -- `print` meets its contract: the text is as long as was counted, and is laid where it fits. Assumes nothing.
-use Prim.Native.Nat.{◌/◌}
+use Prim.Native.Nat.{ℕ, ◌/◌}
 use mathlib.Core.Path.{◌≡◌, sym, ◌∙◌, ap}
 use native.Mathlib.Omega.{arith}
 use lib.ListN.{length}

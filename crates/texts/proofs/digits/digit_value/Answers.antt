@@ -1,4 +1,5 @@
 -- `digit_value_lem` meets its contract. Assumes nothing.
+use mathlib.Core.Logic.{⊎_elim}
 use native.Mathlib.Omega.{arith}
 use Rattle.texts.specs.Digits.{digit_value}
 use borrow.Author.Tests.{lt-ltb, le-ltb}

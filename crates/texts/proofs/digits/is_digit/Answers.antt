@@ -1,6 +1,7 @@
 -- `is_digit` meets its contract: its tests are those of the definition. Assumes nothing.
 use mathlib.Core.Path.{◌≡◌, sym, ◌∙◌}
 use mathlib.Core.Bool.{◌&&◌}
+use mathlib.Core.Logic.{⊎_elim}
 use lib.Dec.{leb}
 use Rattle.texts.specs.Digits.{is_digit}
 use borrow.Author.Tests.{le-leb, lt-leb}

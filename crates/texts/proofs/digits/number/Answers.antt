@@ -13,20 +13,8 @@ use Rattle.texts.proofs.digits.number.Goals as goal
 room : (c : Else-not-has_room) → let args = c.args in args.at + 17 ≤ length args.text.now
 room c = ends_inside _ _ _ (sym c.has_room.ensures ∙ c.if-not-has_room.false)
 
--- TODO
-add-c : tie.Need-overflow-add-c invariant-loop decreases-loop
-add-c c = omega (arith, room c.before.before.before)
-
--- TODO
-mul-v : tie.Need-overflow-mul-v invariant-loop decreases-loop
-mul-v c = omega (arith, value_room _ _ c.before.before.before.loop.invariant.1 (omega arith))
-
 small : (c : After-digit_value) → c.digit_value.result < 16
 small c = rw c.digit_value.ensures (digit_below _)
-
--- TODO
-add-v : tie.Need-overflow-add-v invariant-loop decreases-loop
-add-v c = omega (arith, small c, value_room _ _ c.before.before.before.before.loop.invariant.1 (omega arith))
 
 pub returns-then-not-has_room : goal.returns-then-not-has_room
 returns-then-not-has_room c =
@@ -39,8 +27,17 @@ bounds-text-at c = omega (arith, room (goal.at.bounds-text-at c).Else-not-has_ro
 pub loop-i-init : goal.loop-i-init
 loop-i-init c = (digits_start _ _ (room (goal.at.loop-i-init c).Else-not-has_room), omega arith, omega arith)
 
+pub overflow_add-c : goal.overflow_add-c
+overflow_add-c c = omega (arith, room c)
+
 pub bounds-text-at-in-loop-i : goal.bounds-text-at-in-loop-i
 bounds-text-at-in-loop-i c = omega (arith, room (goal.at.bounds-text-at-in-loop-i c).Else-not-has_room)
+
+pub overflow_mul-v : goal.overflow_mul-v
+overflow_mul-v c = omega (arith, value_room _ _ c.loop-i.invariant.1 (omega arith))
+
+pub overflow_add-v : goal.overflow_add-v
+overflow_add-v c = omega (arith, small c, value_room _ _ c.loop-i.invariant.1 (omega arith))
 
 pub loop-i-preserved : goal.loop-i-preserved
 loop-i-preserved c = (

@@ -1,7 +1,7 @@
 -- `put_digits` meets its contract. The invariant: the digits that are left, laid before those that are in place, give the whole. Assumes nothing.
 use Rattle.texts.proofs.Turns.{hex_end, hex_turn}
 use lib.ListN.{length-set, length}
-use Prim.Native.Nat.{◌+◌, ◌-◌, ◌<◌}
+use Prim.Native.Nat.{ℕ, ◌+◌, ◌-◌, ◌<◌}
 use mathlib.Core.Path.{◌≡◌, refl, sym, ◌∙◌}
 use native.Mathlib.Omega.{arith}
 use Rattle.texts.proofs.put.put_digits.Goals as goal

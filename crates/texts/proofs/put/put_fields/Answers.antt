@@ -8,20 +8,16 @@ use mathlib.Core.Path.{refl, sym, ◌∙◌}
 use native.Mathlib.Omega.{arith}
 use Rattle.texts.proofs.put.put_fields.Goals as goal
 
--- TODO
-mul-put-field-2 : tie.Need-overflow-mul-put-field-2 invariant-loop decreases-loop
-mul-put-field-2 c =
-    let start = c.before.before.before.before.before.before in
-    omega (arith, fields_length start.args.values.now, start.requires)
-
--- TODO
-add-put-field : tie.Need-overflow-add-put-field invariant-loop decreases-loop
-add-put-field c =
-    let start = c.before.before.before.before.before.before in
-    omega (arith, fields_length start.args.values.now, start.requires)
-
 pub loop-i-init : goal.loop-i-init
 loop-i-init c = (laid_start _ _ _, refl, omega arith)
+
+pub overflow_mul-put-field-2 : goal.overflow_mul-put-field-2
+overflow_mul-put-field-2 c =
+    omega (arith, fields_length c.args.values.now, c.requires)
+
+pub overflow_add-put-field : goal.overflow_add-put-field
+overflow_add-put-field c =
+    omega (arith, fields_length c.args.values.now, c.requires)
 
 pub put_field-requires : goal.put_field-requires
 put_field-requires c =

@@ -1,8 +1,8 @@
 -- `put_line` meets its contract: where the line fits, its three pieces stand one behind the other. Assumes nothing.
-use Prim.Native.Nat.{◌+◌, ◌*◌, ◌≤◌}
+use Prim.Native.Nat.{ℕ, ◌+◌, ◌*◌, ◌≤◌}
 use mathlib.Core.Path.{◌≡◌, sym, ◌∙◌}
 use mathlib.Core.Bool.{true}
-use mathlib.Core.List.{List, ◌∷◌}
+use mathlib.Core.List.{List, [], ◌∷◌}
 use native.Mathlib.Omega.{arith}
 use lib.ListN.{length}
 use Rattle.numbers.specs.Numbers.{inside}
@@ -34,14 +34,6 @@ room c =
     let args = c.args in
     rw (line_long args.name.now args.values.now) at (ends_inside _ _ _ (fitting c))
 
--- TODO
-add-put-fields : tie.Need-overflow-add-put-fields
-add-put-fields c = omega (arith, room c.before.before.before.before.before)
-
--- TODO
-add-copy-bytes : tie.Need-overflow-add-copy-bytes
-add-copy-bytes c = omega (arith, room c.before.before.before.before.before.before.before.before.before.before)
-
 pub returns-then-text-values : goal.returns-then-text-values
 returns-then-text-values c =
     let args = c.args in
@@ -57,9 +49,15 @@ returns-then-not-has_room c = let none = sym (asked (goal.at.returns-then-not-ha
   put = sym (laid_unless _ _ _ none);
 }
 
+pub overflow_add-put-fields : goal.overflow_add-put-fields
+overflow_add-put-fields c = omega (arith, room c)
+
 pub put_fields-requires : goal.put_fields-requires
 put_fields-requires c =
     rw (fields_length c.args.values.now) (omega (arith, room (goal.at.put_fields-requires c).Else-not-has_room, c.text-1.given))
+
+pub overflow_add-copy-bytes : goal.overflow_add-copy-bytes
+overflow_add-copy-bytes c = omega (arith, room c)
 
 pub returns : goal.returns
 returns c =

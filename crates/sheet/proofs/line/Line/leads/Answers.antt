@@ -1,7 +1,7 @@
 -- `Line::leads` meets its contract: its tests, one behind the other, are that of the form. Assumes nothing.
 use mathlib.Core.Path.{◌≡◌, sym, ap, ap₂, ◌∙◌}
 use mathlib.Core.List.{List}
-use Prim.Native.Nat.{◌-◌, ◌≤◌}
+use Prim.Native.Nat.{ℕ, ◌-◌, ◌≤◌}
 use lib.ListN.{length, get_or, drop}
 use lib.Dec.{eqb}
 use Rattle.texts.specs.Digits.{line_feed}
