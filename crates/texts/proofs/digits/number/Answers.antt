@@ -28,7 +28,7 @@ pub loop-i-init : goal.loop-i-init
 loop-i-init c = (digits_start _ _ (room (goal.at.loop-i-init c).Else-not-has_room), omega arith, omega arith)
 
 pub overflow_add-c : goal.overflow_add-c
-overflow_add-c c = omega (arith, room c)
+overflow_add-c c = omega (arith, room (goal.at.overflow_add-c c).Else-not-has_room)
 
 pub bounds-text-at-in-loop-i : goal.bounds-text-at-in-loop-i
 bounds-text-at-in-loop-i c = omega (arith, room (goal.at.bounds-text-at-in-loop-i c).Else-not-has_room)
@@ -37,13 +37,13 @@ pub overflow_mul-v : goal.overflow_mul-v
 overflow_mul-v c = omega (arith, value_room _ _ c.loop-i.invariant.1 (omega arith))
 
 pub overflow_add-v : goal.overflow_add-v
-overflow_add-v c = omega (arith, small c, value_room _ _ c.loop-i.invariant.1 (omega arith))
+overflow_add-v c = omega (arith, small (goal.at.overflow_add-v c).After-digit_value, value_room _ _ c.loop-i.invariant.1 (omega arith))
 
 pub loop-i-preserved : goal.loop-i-preserved
 loop-i-preserved c = (
   c.loop-i.invariant.0
       ∙ rw (c.is_digit-good.ensures, c.digit_value.ensures) (digits_turn _ _ (room (goal.at.loop-i-preserved c).Else-not-has_room) _ _ _ c.loop-i-test.true),
-  value_grows _ _ _ c.loop-i.invariant.1 (small c),
+  value_grows _ _ _ c.loop-i.invariant.1 (small (goal.at.loop-i-preserved c).After-digit_value),
   omega arith,
 )
 

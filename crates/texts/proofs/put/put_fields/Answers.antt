@@ -11,12 +11,12 @@ use Rattle.texts.proofs.put.put_fields.Goals as goal
 pub loop-i-init : goal.loop-i-init
 loop-i-init c = (laid_start _ _ _, refl, omega arith)
 
-pub overflow_mul-put-field-2 : goal.overflow_mul-put-field-2
-overflow_mul-put-field-2 c =
+pub overflow_mul-i : goal.overflow_mul-i
+overflow_mul-i c =
     omega (arith, fields_length c.args.values.now, c.requires)
 
-pub overflow_add-put-field : goal.overflow_add-put-field
-overflow_add-put-field c =
+pub overflow_add-at : goal.overflow_add-at
+overflow_add-at c =
     omega (arith, fields_length c.args.values.now, c.requires)
 
 pub put_field-requires : goal.put_field-requires
