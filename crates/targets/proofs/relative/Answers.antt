@@ -8,4 +8,4 @@ pub returns : goal.returns
 unfolding relative
 returns c =
     rw (← c.next.ensures, ← c.displacement.ensures)
-    (rw (to_z-of_z w64 c.displacement.result (record { sfits = c.displacement.type-inv })) at c.moved.ensures)
+    (rw (to_z-of_z w64 c.displacement.result (record { sfits = c.displacement.type_inv })) at c.moved.ensures)

@@ -20,15 +20,15 @@ pub loop-left-init : goal.loop-left-init
 loop-left-init c = built_none _ _ _ _ _
 
 pub overflow_mul-value : goal.overflow_mul-value
-overflow_mul-value c = omega (arith, small c)
+overflow_mul-value c = omega (arith, small (goal.at.overflow_mul-value c).In-loop-left)
 
 pub overflow_add-value : goal.overflow_add-value
-overflow_add-value c = omega (arith, small c, c.byte_at-byte.type-inv)
+overflow_add-value c = omega (arith, small (goal.at.overflow_add-value c).In-loop-left, c.byte_at-byte.type_inv)
 
 pub loop-left-preserved : goal.loop-left-preserved
 loop-left-preserved c =
     let args = c.args in
-    built_more _ _ _ _ _ _ _ _ c.loop-left-test.true c.loop-left.invariant (omega (arith, c.byte_at-byte.type-inv))
+    built_more _ _ _ _ _ _ _ _ c.loop-left-test.true c.loop-left.invariant (omega (arith, c.byte_at-byte.type_inv))
     (c.wide.ensures
     ∙ c.byte_at-byte.ensures
     ∙ ap (λ (a : ℕ). byte_in args.bytes.now (spot args.pages.now (length args.bytes.now) a)) c.plus.ensures)

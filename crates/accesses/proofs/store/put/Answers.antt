@@ -9,10 +9,6 @@ pub overflow_add-end : goal.overflow_add-end
 overflow_add-end c =
     omega (arith, spot_page _ _ _ _ _ (sym c.find.ensures ∙ c.in-At.is))
 
-pub slice_bounds-put-in-page-end : goal.slice_bounds-put-in-page-end
-slice_bounds-put-in-page-end c =
-    spot_page _ _ _ _ _ (sym c.find.ensures ∙ c.in-At.is)
-
 pub returns-in-Unlisted : goal.returns-in-Unlisted
 returns-in-Unlisted c = rw (sym c.find.ensures ∙ c.in-Unlisted.is)
 
@@ -20,3 +16,7 @@ pub returns-in-At : goal.returns-in-At
 returns-in-At c =
     let led = sym c.find.ensures ∙ c.in-At.is in
     rw (led, c.put_in_page.ensures) (put_in _ _ _ (spot_page _ _ _ _ _ led))
+
+pub slice_bounds-put_in_page-end : goal.slice_bounds-put_in_page-end
+slice_bounds-put_in_page-end c =
+    spot_page _ _ _ _ _ (sym c.find.ensures ∙ c.in-At.is)
