@@ -1,11 +1,11 @@
 -- `store_all` meets its contract. The invariants of its loops are `Trying` and `Making`, and each way out of a loop or round it is a law of those.
 -- The measure is how many slots are left. Assumes nothing.
 use Prim.Native.Nat.{◌-◌, ◌≤◌}
-use mathlib.Core.Logic.{⊎_elim}
 use mathlib.Core.Path.{refl, sym, ◌∙◌}
 use native.Mathlib.Omega.{arith}
 use lib.ListN.{length}
 use Rattle.stores.proofs.Turns.{trying_starts, tried_to_end, tried_all, tried_blocked, tried_within, tried_across, making_starts, made_to_end, made_all, this_ready, made}
+use Rattle.stores.proofs.store_all.Goals.{in-Within, in-Across, else-loop-tried-test, then-loop-tried-test+in-End}
 use Rattle.stores.proofs.store_all.Goals as goal
 
 pub loop-tried-init : goal.loop-tried-init
@@ -23,13 +23,19 @@ pub loop-tried-preserved : goal.loop-tried-preserved
 loop-tried-preserved c =
     let inv = c.loop-tried.invariant in
     let here = c.in-Store.is in
-    let h = c.match-locate.branch in ?
+    elim c.match-locate.branch [
+      | in-Within w ↦ tried_within inv here (sym w.in-Within.is ∙ c.locate.ensures) w.places-is
+      | in-Across w ↦ tried_across inv here (sym w.in-Across.is ∙ c.locate.ensures) w.places-is
+    ]
 
 pub loop-made-init : goal.loop-made-init
 loop-made-init c =
     let inv = c.loop-tried.invariant in
     making_starts inv
-    (let h = c.loop-tried-test.branch in ?)
+    (elim c.loop-tried-test.branch [
+      | else-loop-tried-test w ↦ tried_all inv (omega arith)
+      | then-loop-tried-test+in-End w ↦ tried_to_end inv w.in-End.is
+    ])
 
 pub shape_of-bytes-in-End-slot : goal.shape_of-bytes-in-End-slot
 shape_of-bytes-in-End-slot c = c.loop-made.invariant.kept
@@ -56,5 +62,5 @@ pub returns : goal.returns
 returns c =
     record {
       value = c.loop-made.invariant.all;
-      bytes_after = made_all c.loop-made.invariant ?;
+      bytes_after = made_all c.loop-made.invariant (omega arith);
     }
