@@ -1,9 +1,7 @@
 -- `store_all` meets its contract. The invariants of its loops are `Trying` and `Making`, and each way out of a loop or round it is a law of those.
 -- The measure is how many slots are left. Assumes nothing.
-use Prim.Native.Nat.{◌-◌, ◌≤◌}
 use mathlib.Core.Path.{refl, sym, ◌∙◌}
 use native.Mathlib.Omega.{arith}
-use lib.ListN.{length}
 use Rattle.stores.proofs.Turns.{trying_starts, tried_to_end, tried_all, tried_blocked, tried_within, tried_across, making_starts, made_to_end, made_all, this_ready, made}
 use Rattle.stores.proofs.store_all.Goals.{in-Within, in-Across, else-loop-tried-test, then-loop-tried-test+in-End}
 use Rattle.stores.proofs.store_all.Goals as goal

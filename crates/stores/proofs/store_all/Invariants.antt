@@ -1,7 +1,7 @@
--- `store_all` meets its contract. The invariants of its loops are `Trying` and `Making`, and each way out of a loop or round it is a law of those.
+-- `store_all`: the invariant and the measure of its loops. Assumes nothing.
 use Prim.Native.Nat.{◌-◌}
 use Rattle.accesses.specs.Access.{lookup_of}
-use Rattle.stores.proofs.Turns.{slot_count, Trying, Making, made}
+use Rattle.stores.proofs.Turns.{slot_count, Trying, Making}
 use Rattle.stores.proofs.store_all.Given as goal
 
 abbrev pub invariant-loop-tried : goal.invariant-loop-tried

@@ -1,5 +1,4 @@
--- `number` meets its contract. The invariant is `Built`: the value holds the bytes from `left` on, and is small enough for one more. The measure is `left`. Assumes nothing.
-use Prim.Native.Nat.{◌-◌}
+-- `number`: the invariant and the measure of its loop. Assumes nothing.
 use lib.ListN.{length}
 use Rattle.pages.specs.Pages.{spot}
 use Rattle.accesses.proofs.Numbers.{Built}

@@ -1,5 +1,4 @@
--- `test_bytes` meets its contract. The invariant: the whole scan is the scan from here on. The measure is what is left. Assumes nothing.
-use Prim.Native.Nat.{◌-◌}
+-- `test_bytes`: the invariant and the measure of its loop. Assumes nothing.
 use mathlib.Core.Path.{◌≡◌}
 use Rattle.addresses.specs.Address.{wrapped}
 use Rattle.pages.specs.Pages.{spot}

@@ -1,4 +1,4 @@
--- `write` meets its contract. The invariant: the whole write is the write from here on, and no byte is added or lost. The measure is what is left. Assumes nothing.
+-- `write`: the invariant and the measure of its loop. Assumes nothing.
 use mathlib.Core.Path.{◌≡◌}
 use lib.ListN.{length}
 use Rattle.addresses.specs.Address.{wrapped}

@@ -1,4 +1,4 @@
--- `target_fits_lem` meets its contract. Assumes nothing.
+-- `target_fits` meets its contract. Assumes nothing.
 use Rattle.instructions.proofs.form.target_fits.Goals as goal
 
 pub returns-in-Relative : goal.returns-in-Relative

@@ -1,5 +1,4 @@
 -- `copy_words` meets its contract. The invariant: what is still to be laid gives the whole. Assumes nothing.
-use Prim.Native.Nat.{◌-◌}
 use mathlib.Core.Path.{sym, ◌∙◌}
 use Rattle.numbers.proofs.BufferLaws.{copying_start, copying_turn, copying_end, laid_unless}
 use Rattle.numbers.proofs.Bytes.{lies_inside}

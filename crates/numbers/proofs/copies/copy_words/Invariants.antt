@@ -1,4 +1,4 @@
--- `copy_words` meets its contract. The invariant: what is still to be laid gives the whole. Assumes nothing.
+-- `copy_words`: the invariant and the measure of its loop. Assumes nothing.
 use Prim.Native.Nat.{◌-◌}
 use lib.ListN.{length}
 use Rattle.numbers.proofs.BufferLaws.{Copying}

@@ -1,5 +1,5 @@
 -- `find` meets its contract. The invariant: the whole search is the search from here on. The measure is what is left of the list. Assumes nothing.
-use Prim.Native.Nat.{◌-◌, ◌+◌}
+use Prim.Native.Nat.{◌+◌}
 use mathlib.Core.Path.{◌≡◌, refl, sym, ◌∙◌}
 use mathlib.Core.Bool.{cond}
 use lib.ListN.{drop, get_or}

@@ -1,4 +1,4 @@
--- `repeated` meets its contract. The invariant: the whole search is the search from here on. The measure is what is left of the list. Assumes nothing.
+-- `repeated`: the invariant and the measure of its loop. Assumes nothing.
 use Prim.Native.Nat.{◌-◌}
 use mathlib.Core.Path.{◌≡◌}
 use lib.ListN.{length, drop}

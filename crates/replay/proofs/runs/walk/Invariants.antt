@@ -1,4 +1,4 @@
--- `walk` meets its contract. The invariant: the whole run is the run from here on, and no byte is added or lost. Assumes nothing.
+-- `walk`: the invariant and the measure of its loop. Assumes nothing.
 use Prim.Native.Nat.{◌-◌}
 use mathlib.Core.Path.{◌≡◌}
 use lib.ListN.{length}

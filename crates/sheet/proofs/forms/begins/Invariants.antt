@@ -1,4 +1,4 @@
--- `begins` meets its contract. The invariant: the whole test is what was told so far, and the test from here on. Assumes nothing.
+-- `begins`: the invariant and the measure of its loop. Assumes nothing.
 use Rattle.texts.specs.Fields.{begins}
 use lib.ListN.{length, drop}
 use Prim.Native.Nat.{◌-◌}

@@ -1,4 +1,4 @@
--- `fields_stand` meets its contract. The invariant: the whole test is the test of the fields from here on, which the text has room for.
+-- `fields_stand`: the invariant and the measure of its loop. Assumes nothing.
 use Prim.Native.Nat.{◌+◌, ◌-◌, ◌*◌, ◌≤◌}
 use mathlib.Core.Path.{◌≡◌}
 use lib.ListN.{length, drop}

@@ -1,4 +1,4 @@
--- `fill_line` meets its contract. The invariant: what is still to be laid, from here on, gives the whole. Assumes nothing.
+-- `fill_line`: the invariant and the measure of its loop. Assumes nothing.
 use Prim.Native.Nat.{◌+◌, ◌-◌}
 use mathlib.Core.Path.{◌≡◌}
 use lib.ListN.{length, take, drop}

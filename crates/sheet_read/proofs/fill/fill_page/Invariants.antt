@@ -1,4 +1,4 @@
--- `fill_page` meets its contract. The invariant: the lines counted and those from here on are all of them, and what is still to be laid,
+-- `fill_page`: the invariant and the measure of its loop. Assumes nothing.
 use Prim.Native.Nat.{◌+◌, ◌-◌, ◌*◌, ◌≤◌}
 use mathlib.Core.Path.{◌≡◌}
 use lib.ListN.{length, drop}

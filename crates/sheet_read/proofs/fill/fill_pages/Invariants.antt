@@ -1,4 +1,4 @@
--- `fill_pages` meets its contract. The invariant: what is still to be laid, from here on, gives the whole. Assumes nothing.
+-- `fill_pages`: the invariant and the measure of its loop. Assumes nothing.
 use Prim.Native.Nat.{◌+◌, ◌*◌, ◌≤◌}
 use mathlib.Core.Path.{◌≡◌}
 use lib.ListN.{length, drop}

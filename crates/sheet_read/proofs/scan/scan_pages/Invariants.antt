@@ -1,4 +1,4 @@
--- `scan_pages` meets its contract. The invariant: the pages counted and those from here on are all of them. Assumes nothing.
+-- `scan_pages`: the invariant and the measure of its loop. Assumes nothing.
 use Prim.Native.Nat.{◌+◌, ◌-◌, ◌*◌}
 use mathlib.Core.Path.{◌≡◌}
 use lib.ListN.{length, drop}

@@ -1,4 +1,4 @@
--- `scan_plain` meets its contract. The invariant: the lines counted and those from here on are all of them. Assumes nothing.
+-- `scan_plain`: the invariant and the measure of its loop. Assumes nothing.
 use Prim.Native.Nat.{◌+◌, ◌-◌, ◌≤◌}
 use mathlib.Core.Path.{◌≡◌}
 use lib.ListN.{length, drop}

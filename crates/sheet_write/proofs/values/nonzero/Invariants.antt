@@ -1,4 +1,4 @@
--- `nonzero` meets its contract. The invariant: what was found, and what is still to be found, is the whole count. Assumes nothing.
+-- `nonzero`: the invariant and the measure of its loop. Assumes nothing.
 use Prim.Native.Nat.{◌-◌}
 use Rattle.sheet_write.proofs.ValueLaws.{Counted}
 use Rattle.sheet_write.proofs.values.nonzero.Given as goal

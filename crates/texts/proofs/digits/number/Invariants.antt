@@ -1,4 +1,4 @@
--- `number` meets its contract. The invariant: the characters from here on, behind those that were read, give the whole number.
+-- `number`: the invariant and the measure of its loop. Assumes nothing.
 use Prim.Native.Nat.{◌+◌, ◌-◌, ◌^◌, ◌<◌, ◌≤◌}
 use mathlib.Core.Path.{◌≡◌}
 use lib.ListN.{drop}

@@ -1,8 +1,8 @@
--- `put_digits` meets its contract. The invariant: the digits that are left, laid before those that are in place, give the whole. Assumes nothing.
+-- `put_digits`: the invariant and the measure of its loop. Assumes nothing.
 use lib.ListN.{length}
 use Rattle.texts.specs.Digits.{hex}
 use Rattle.numbers.specs.Buffers.{laid}
-use Prim.Native.Nat.{◌-◌, ◌≤◌}
+use Prim.Native.Nat.{◌≤◌}
 use mathlib.Core.Path.{◌≡◌}
 use Rattle.texts.proofs.put.put_digits.Given as goal
 

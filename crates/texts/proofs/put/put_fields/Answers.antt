@@ -3,7 +3,7 @@ use Rattle.texts.proofs.Turns.{fields_end, fields_turn}
 use Rattle.numbers.proofs.Laws.{laid_start}
 use Rattle.texts.proofs.Fields.{fields_length}
 use lib.ListN.{length}
-use Prim.Native.Nat.{◌+◌, ◌-◌, ◌*◌, ◌≤◌}
+use Prim.Native.Nat.{◌+◌, ◌*◌, ◌≤◌}
 use mathlib.Core.Path.{refl, sym, ◌∙◌}
 use native.Mathlib.Omega.{arith}
 use Rattle.texts.proofs.put.put_fields.Goals as goal

@@ -1,4 +1,4 @@
--- `put_fields` meets its contract. The invariant: the fields still to be laid, from here on, give the whole. Assumes nothing.
+-- `put_fields`: the invariant and the measure of its loop. Assumes nothing.
 use Rattle.texts.specs.Fields.{fields}
 use Rattle.numbers.specs.Buffers.{laid}
 use lib.ListN.{length, drop}
