@@ -30,7 +30,7 @@ returns-then-low-lt2147483648 c = rw (to_z_pos w64 (c.args.a % 2 ^ 32) (low c.ar
 pub returns-else-low-lt2147483648 : goal.returns-else-low-lt2147483648
 unfolding displacement
 returns-else-low-lt2147483648 c =
-    to_z-of_z w64 _ (sub-result c)
+    to_z-of_z w64 _ (overflow_sub-result c)
     ∙ rw (
       to_z_pos w64 (c.args.a % 2 ^ 32) (low c.args.a),
       wrapped (c.args.a % 2 ^ 32) (below_32 c.args.a),

@@ -5,18 +5,18 @@ use mir.ValLaws.{to_z_pos, to_z-of_z}
 use Rattle.targets.proofs.SignedNumbers.{positive, negative, below}
 use Rattle.targets.proofs.moved.Goals as goal
 
-pub overflow_cast-plus : goal.overflow_cast-plus
-overflow_cast-plus c =
+pub overflow_cast-by : goal.overflow_cast-by
+overflow_cast-by c =
     let s = positive c.args.by c.ranges.by c.if-by-ge0.true in
     rw (to_z-of_z w64 c.args.by c.ranges.by, s.z_is) (tt, record { fits = omega arith })
 
-pub overflow_sub-minus : goal.overflow_sub-minus
-overflow_sub-minus c =
+pub overflow_sub-by : goal.overflow_sub-by
+overflow_sub-by c =
     let s = negative c.args.by c.ranges.by c.if-by-ge0.false in
     rw (to_z-of_z w64 c.args.by c.ranges.by, s.z_is, below s.n) (record { sfits = s.small })
 
-pub overflow_cast-minus : goal.overflow_cast-minus
-overflow_cast-minus c =
+pub overflow_cast-by-else-by-ge0 : goal.overflow_cast-by-else-by-ge0
+overflow_cast-by-else-by-ge0 c =
     let s = negative c.args.by c.ranges.by c.if-by-ge0.false in
     rw (
       to_z-of_z w64 c.args.by c.ranges.by,
@@ -26,8 +26,8 @@ overflow_cast-minus c =
     )
     (tt, record { fits = omega arith })
 
-pub overflow_add-minus : goal.overflow_add-minus
-overflow_add-minus c =
+pub overflow_add-by : goal.overflow_add-by
+overflow_add-by c =
     let s = negative c.args.by c.ranges.by c.if-by-ge0.false in
     rw (to_z-of_z w64 c.args.by c.ranges.by, s.z_is, below s.n, to_z_pos w64 s.n s.small) (record { fits = omega arith })
 
