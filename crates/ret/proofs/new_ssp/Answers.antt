@@ -5,23 +5,26 @@ use Rattle.accesses.specs.Access.{lookup_of, load as load_at}
 use Rattle.accesses.specs.declared.access.Access.{Access}
 use Rattle.processor.specs.State.{enabled}
 use Rattle.processor.specs.Accesses.{shadow}
+use Rattle.processor.specs.declared.state.State.{State}
 use Rattle.targets.specs.Targets.{pushed}
 use Rattle.ret.proofs.RetWays.{not_asked, frame_blocked, frame_differs, frame_popped}
-use Rattle.ret.proofs.new_ssp.Goals.{After-load, Else-not-enabled, Start}
+use Rattle.ret.proofs.new_ssp.Goals.{After-load, Else-not-enabled}
 use Rattle.ret.proofs.new_ssp.Goals as goal
 
 -- the pop as the definition has it
-abbrev pop : Start → Access
-pop c = shadow c.args.state c.args.state.ssp (pushed c.args.state) false
+abbrev pop : State → Access
+pop s = shadow s s.ssp (pushed s) false
 
 is_on : (c : Else-not-enabled) → enabled c.args.state ≡ true
 is_on c = sym c.enabled.ensures ∙ c.if-not-enabled.false
 
-frame_load : (c : After-load) → c.shadow-access.result ≡ pop (TODO c).Start
+frame_load : (c : After-load) → c.shadow-access.result ≡ pop c.args.state
 frame_load c = rw (c.shadow-access.ensures, c.pushed-size.ensures)
 
-found : (c : After-load) → load_at (lookup_of c.args.pages.now c.args.bytes.now) c.args.bytes.now (pop (TODO c).Start) ≡ c.load.result
-found c = rw (← frame_load c) (sym c.load.ensures)
+found : (c : After-load) → load_at (lookup_of c.args.pages.now c.args.bytes.now) c.args.bytes.now (pop c.args.state) ≡ c.load.result
+found c =
+    rw (← c.pushed-size.ensures, ← c.shadow-access.ensures)
+    (sym c.load.ensures)
 
 pub returns-then-not-enabled : goal.returns-then-not-enabled
 returns-then-not-enabled c = sym (not_asked _ _ _ _ (sym c.enabled.ensures ∙ c.if-not-enabled.true))
