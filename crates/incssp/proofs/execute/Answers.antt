@@ -42,15 +42,17 @@ last : (c : After-load-in-Value) →
     load_at (lookup_of args.pages.now args.bytes.now) args.bytes.now
     (shadow args.state (plus args.state args.state.ssp (byte_count args.size * (args.b % 256 - 1))) args.size false)
     ≡ c.load-in-Value.result
-last c = rw (← last_is (TODO c).After-shadow-last) (sym c.load-in-Value.ensures)
+last c =
+    rw (← c.bytes-n.ensures, ← c.plus.ensures, ← c.shadow-last.ensures)
+    (sym c.load-in-Value.ensures)
 
 pub returns-then-not-usable : goal.returns-then-not-usable
 returns-then-not-usable c =
     rw (c.fail.ensures, c.fault.ensures)
     (sym (not_usable _ _ _ _ _ _ (sym c.usable.ensures ∙ c.if-not-usable.true)))
 
-pub overflow_mul-plus : goal.overflow_mul-plus
-overflow_mul-plus c =
+pub overflow_mul-n : goal.overflow_mul-n
+overflow_mul-n c =
     let args = c.args in
     rw c.bytes-n.ensures (record { fits = product args.size (args.b % 256) (omega arith) })
 
@@ -59,8 +61,8 @@ returns-then-range-eq0 c =
     rw (c.shift.ensures, c.next.ensures, new_ssp_lem (goal.at.returns-then-range-eq0 c).After-plus-ssp)
     (sym (none _ _ _ _ _ _ (is_usable (goal.at.returns-then-range-eq0 c).Else-not-usable) _ (first (goal.at.returns-then-range-eq0 c).After-load ∙ c.in-Value.is) c.if-range-eq0.true))
 
-pub overflow_mul-plus-2 : goal.overflow_mul-plus-2
-overflow_mul-plus-2 c =
+pub overflow_mul-n-in-Value : goal.overflow_mul-n-in-Value
+overflow_mul-n-in-Value c =
     rw c.bytes-n.ensures (record { fits = product c.args.size (c.args.b % 256 - 1) (omega arith) })
 
 pub returns-in-Blocked : goal.returns-in-Blocked

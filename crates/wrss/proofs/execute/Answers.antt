@@ -41,8 +41,8 @@ returns-then-not-permitted c =
     rw (c.fail-then-not-permitted.ensures, c.fault-then-not-permitted.ensures)
     (sym (not_permitted_lem _ _ _ _ _ _ _ _ (is_usable (goal.at.returns-then-not-permitted c).Else-not-usable) (c.if-not-permitted.true)))
 
-pub nonzero_rem-if3 : goal.nonzero_rem-if3
-nonzero_rem-if3 c = rw c.bytes.ensures (some_bytes c.args.size)
+pub nonzero_rem-a : goal.nonzero_rem-a
+nonzero_rem-a c = rw c.bytes.ensures (some_bytes c.args.size)
 
 pub returns-then-a-bytes-ne0 : goal.returns-then-a-bytes-ne0
 returns-then-a-bytes-ne0 c =

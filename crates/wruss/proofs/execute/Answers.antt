@@ -37,8 +37,8 @@ returns-then-state-ne0 c =
     rw (c.fail-then-state-ne0.ensures, c.fault-then-state-ne0.ensures)
     (sym (not_kernel _ _ _ _ _ _ _ (is_recognised (goal.at.returns-then-state-ne0 c).Else-not-recognised) c.if-state-ne0.true))
 
-pub nonzero_rem-if3 : goal.nonzero_rem-if3
-nonzero_rem-if3 c = rw c.bytes.ensures (some_bytes c.args.size)
+pub nonzero_rem-a : goal.nonzero_rem-a
+nonzero_rem-a c = rw c.bytes.ensures (some_bytes c.args.size)
 
 pub returns-then-a-bytes-ne0 : goal.returns-then-a-bytes-ne0
 returns-then-a-bytes-ne0 c =
