@@ -39,8 +39,8 @@ returns-then-not-good_token c =
     (sym (bad_token _ _ _ _ _ (is_usable (goal.at.returns-then-not-good_token c).Else-not-usable) c.if-a-ne0.false _ (found (goal.at.returns-then-not-good_token c).After-load ∙ c.in-Value.is)
     (sym c.good_token.ensures ∙ c.if-not-good_token.true)))
 
-pub overflow_add-plus : goal.overflow_add-plus
-overflow_add-plus c =
+pub overflow_add-long_bit : goal.overflow_add-long_bit
+overflow_add-long_bit c =
     omega (arith, c.long_bit.ensures, long_small c.args.state)
 
 pub returns-in-Blocked : goal.returns-in-Blocked

@@ -1,5 +1,6 @@
 -- `Operation::mode_fits` meets its contract, mode by mode. Assumes nothing.
 use borrow.Author.Tests.{ne_eqb}
+use native.Mathlib.Omega.{arith}
 use Rattle.instructions.specs.Instruction.{mode_fits}
 use Rattle.instructions.proofs.operation.Operation.mode_fits.Goals as goal
 
@@ -13,4 +14,4 @@ returns-in-1 c = rw c.in-1.is c.narrow.ensures
 
 pub returns-in_default : goal.returns-in_default
 unfolding mode_fits
-returns-in_default c = rw (ne_eqb _ _ c.in_default.rest.0.1, ne_eqb _ _ c.in_default.rest.1)
+returns-in_default c = rw (ne_eqb c.args.mode 0 (λ e. omega arith), ne_eqb c.args.mode 1 (λ e. omega arith))

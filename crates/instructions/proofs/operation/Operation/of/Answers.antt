@@ -1,5 +1,6 @@
 -- `Operation::of` meets its contract, code by code. Assumes nothing.
 use borrow.Author.Tests.{ne_eqb}
+use native.Mathlib.Omega.{arith}
 use Rattle.instructions.specs.Operation.{decoded}
 use Rattle.instructions.proofs.operation.Operation.of.Goals as goal
 
@@ -55,16 +56,16 @@ pub returns-in_default : goal.returns-in_default
 unfolding decoded
 returns-in_default c =
     rw (
-      ne_eqb _ _ c.in_default.rest.0.0.0.0.0.0.0.0.0.0.0.1,
-      ne_eqb _ _ c.in_default.rest.0.0.0.0.0.0.0.0.0.0.1,
-      ne_eqb _ _ c.in_default.rest.0.0.0.0.0.0.0.0.0.1,
-      ne_eqb _ _ c.in_default.rest.0.0.0.0.0.0.0.0.1,
-      ne_eqb _ _ c.in_default.rest.0.0.0.0.0.0.0.1,
-      ne_eqb _ _ c.in_default.rest.0.0.0.0.0.0.1,
-      ne_eqb _ _ c.in_default.rest.0.0.0.0.0.1,
-      ne_eqb _ _ c.in_default.rest.0.0.0.0.1,
-      ne_eqb _ _ c.in_default.rest.0.0.0.1,
-      ne_eqb _ _ c.in_default.rest.0.0.1,
-      ne_eqb _ _ c.in_default.rest.0.1,
-      ne_eqb _ _ c.in_default.rest.1,
+      ne_eqb c.args.code 1 (λ e. omega arith),
+      ne_eqb c.args.code 2 (λ e. omega arith),
+      ne_eqb c.args.code 3 (λ e. omega arith),
+      ne_eqb c.args.code 4 (λ e. omega arith),
+      ne_eqb c.args.code 5 (λ e. omega arith),
+      ne_eqb c.args.code 6 (λ e. omega arith),
+      ne_eqb c.args.code 7 (λ e. omega arith),
+      ne_eqb c.args.code 8 (λ e. omega arith),
+      ne_eqb c.args.code 9 (λ e. omega arith),
+      ne_eqb c.args.code 10 (λ e. omega arith),
+      ne_eqb c.args.code 11 (λ e. omega arith),
+      ne_eqb c.args.code 12 (λ e. omega arith),
     )
