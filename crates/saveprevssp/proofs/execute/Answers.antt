@@ -2,21 +2,17 @@
 use mathlib.Core.Path.{◌≡◌, sym, ◌∙◌}
 use mathlib.Core.Bool.{true, false}
 use Rattle.accesses.specs.Access.{lookup_of, load as load_at}
-use Rattle.accesses.specs.declared.access.Access.{Access}
 use Rattle.numbers.specs.declared.size.Size.TheVariants.{Eight}
 use Rattle.processor.specs.State.{usable}
 use Rattle.processor.specs.Accesses.{shadow}
 use Rattle.saveprevssp.proofs.SaveprevsspWays.{not_usable, not_aligned, blocked, popped}
-use Rattle.saveprevssp.proofs.execute.Goals.{After-load, Else-not-usable, Start}
+use Rattle.saveprevssp.proofs.execute.Goals.{After-load, Else-not-usable}
 use Rattle.saveprevssp.proofs.execute.Goals as goal
-
-abbrev pop : Start → Access
-pop c = shadow c.args.state c.args.state.ssp Eight false
 
 is_usable : (c : Else-not-usable) → usable c.args.state ≡ true
 is_usable c = sym c.usable.ensures ∙ c.if-not-usable.false
 
-found : (c : After-load) → load_at (lookup_of c.args.pages.now c.args.bytes.now) c.args.bytes.now (pop (TODO c).Start) ≡ c.load.result
+found : (c : After-load) → load_at (lookup_of c.args.pages.now c.args.bytes.now) c.args.bytes.now (shadow c.args.state c.args.state.ssp Eight false) ≡ c.load.result
 found c = rw (← c.shadow-access.ensures) (sym c.load.ensures)
 
 pub returns-then-not-usable : goal.returns-then-not-usable

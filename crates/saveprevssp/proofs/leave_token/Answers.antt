@@ -15,22 +15,16 @@ use Rattle.processor.specs.declared.popped.Popped.{Popped}
 use Rattle.processor.proofs.Laws.{long_small}
 use Rattle.saveprevssp.specs.Saveprevssp.{new_top, saved_token}
 use Rattle.saveprevssp.proofs.SaveprevsspWays.{left_stores, top_failed, not_saved, not_left, left_behind}
-use Rattle.saveprevssp.proofs.leave_token.Goals.{After-new_top, After-store_all, Else-not-saved_token, Start}
+use Rattle.saveprevssp.proofs.leave_token.Goals.{After-new_top, After-store_all, Else-not-saved_token}
 use Rattle.saveprevssp.proofs.leave_token.Goals as goal
 
--- where addresses lead, and the new top as the definition has it
-abbrev led : Start → Lookup
-led c = lookup_of c.args.pages.now c.args.bytes.now
-
-abbrev the-top : Start → Result ℕ
-the-top c = interp (led c) (new_top c.args.state (plus c.args.state c.args.state.ssp 8)) c.args.bytes.now
-
-topped : (c : After-new_top) → the-top (TODO c).Start ≡ result_of c.new_top.result c.args.bytes.now
-topped c = rw (← c.plus.ensures) (sym c.new_top.ensures)
-
 -- the way that its pop went
-went : (c : tie.After-new-top) (p : Popped) → c.new-top.result ≡ p → the-top (from-top c) ≡ result_of p (from-top c).args.bytes.now
-went c p e = topped c ∙ ap (λ (q : Popped). result_of q (from-top c).args.bytes.now) e
+went : (c : After-new_top) (p : Popped) → c.new_top.result ≡ p
+    → interp (lookup_of c.args.pages.now c.args.bytes.now) (new_top c.args.state (plus c.args.state c.args.state.ssp 8)) c.args.bytes.now
+    ≡ result_of p c.args.bytes.now
+went c p e =
+    rw (← c.plus.ensures) (sym c.new_top.ensures)
+    ∙ ap (λ (q : Popped). result_of q c.args.bytes.now) e
 
 is_saved : (c : Else-not-saved_token) → saved_token c.args.state c.args.token ≡ true
 is_saved c = sym c.saved_token.ensures ∙ c.if-not-saved_token.false
@@ -39,9 +33,19 @@ is_saved c = sym c.saved_token.ensures ∙ c.if-not-saved_token.false
 abbrev the-stores : After-store_all → List Slot
 the-stores c = left_stores c.args.token c.args.state
 
-stored : (c : After-store_all) → (c.store_all.result ≡ try_all (led (TODO c).Start) (the-stores c))
-    × (c.store_all.new.bytes
-    ≡ left_by c.store_all.result (written_all (led (TODO c).Start) (the-stores c) c.args.bytes.now) c.args.bytes.now)
+tried : (c : After-store_all) → c.store_all.result ≡ try_all (lookup_of c.args.pages.now c.args.bytes.now) (the-stores c)
+tried c =
+    rw (
+      c.shadow-below.ensures,
+      c.minus-in-Top.ensures,
+      c.shadow-hole.ensures,
+      c.minus.ensures,
+      c.long_bit.ensures,
+    )
+    at c.store_all.ensures.value
+
+stored : (c : After-store_all) → c.store_all.new.bytes
+    ≡ left_by c.store_all.result (written_all (lookup_of c.args.pages.now c.args.bytes.now) (the-stores c) c.args.bytes.now) c.args.bytes.now
 stored c =
     rw (
       c.shadow-below.ensures,
@@ -50,7 +54,7 @@ stored c =
       c.minus.ensures,
       c.long_bit.ensures,
     )
-    at c.store_all.ensures
+    at c.store_all.ensures.bytes_after
 
 pub returns-then-not-saved_token : goal.returns-then-not-saved_token
 returns-then-not-saved_token c =
@@ -60,7 +64,7 @@ returns-then-not-saved_token c =
 
 pub overflow_add-restore : goal.overflow_add-restore
 overflow_add-restore c =
-    omega (arith, c.long_bit.ensures, long_small c.args.state, c.fits.token)
+    omega (arith, c.long_bit.ensures, long_small c.args.state)
 
 pub returns-in-Failed : goal.returns-in-Failed
 returns-in-Failed c =
@@ -69,13 +73,13 @@ returns-in-Failed c =
 pub returns-in-NoneStored : goal.returns-in-NoneStored
 returns-in-NoneStored c =
     let failed = c.in-NoneStored.is in
-    rw (c.fail-in-NoneStored.ensures, c.blame.ensures, (stored (goal.at.returns-in-NoneStored c).After-store_all).1, failed)
+    rw (c.fail-in-NoneStored.ensures, c.blame.ensures, stored (goal.at.returns-in-NoneStored c).After-store_all, failed)
     (sym (not_left _ _ _ _ _ _ (went (goal.at.returns-in-NoneStored c).After-new_top _ c.in-Top.is) (is_saved (goal.at.returns-in-NoneStored c).Else-not-saved_token) _ _
-    (sym (stored (goal.at.returns-in-NoneStored c).After-store_all).0 ∙ failed)))
+    (sym (tried (goal.at.returns-in-NoneStored c).After-store_all) ∙ failed)))
 
 pub returns-in-AllStored : goal.returns-in-AllStored
 returns-in-AllStored c =
     let all = c.in-AllStored.is in
-    rw (c.shift.ensures, c.next.ensures, (stored (goal.at.returns-in-AllStored c).After-store_all).1, all)
+    rw (c.shift.ensures, c.next.ensures, stored (goal.at.returns-in-AllStored c).After-store_all, all)
     (sym (left_behind _ _ _ _ _ _ (went (goal.at.returns-in-AllStored c).After-new_top _ c.in-Top.is) (is_saved (goal.at.returns-in-AllStored c).Else-not-saved_token)
-    (sym (stored (goal.at.returns-in-AllStored c).After-store_all).0 ∙ all)))
+    (sym (tried (goal.at.returns-in-AllStored c).After-store_all) ∙ all)))

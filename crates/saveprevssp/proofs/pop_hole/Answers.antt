@@ -3,17 +3,13 @@ use mathlib.Core.Path.{◌≡◌, sym, ◌∙◌}
 use mathlib.Core.Bool.{false}
 use Rattle.accesses.specs.Access.{lookup_of, load as load_at}
 use Rattle.numbers.specs.declared.size.Size.TheVariants.{Four}
-use Rattle.accesses.specs.declared.access.Access.{Access}
 use Rattle.processor.specs.State.{plus}
 use Rattle.processor.specs.Accesses.{shadow}
 use Rattle.saveprevssp.proofs.SaveprevsspWays.{hole_blocked, hole_filled, hole_popped}
-use Rattle.saveprevssp.proofs.pop_hole.Goals.{After-load, Start}
+use Rattle.saveprevssp.proofs.pop_hole.Goals.{After-load}
 use Rattle.saveprevssp.proofs.pop_hole.Goals as goal
 
-abbrev pop : Start → Access
-pop c = shadow c.args.state c.args.top Four false
-
-found : (c : After-load) → load_at (lookup_of c.args.pages.now c.args.bytes.now) c.args.bytes.now (pop (TODO c).Start) ≡ c.load.result
+found : (c : After-load) → load_at (lookup_of c.args.pages.now c.args.bytes.now) c.args.bytes.now (shadow c.args.state c.args.top Four false) ≡ c.load.result
 found c = rw (← c.shadow-access.ensures) (sym c.load.ensures)
 
 pub returns-in-Blocked : goal.returns-in-Blocked
