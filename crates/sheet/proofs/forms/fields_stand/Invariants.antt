@@ -6,7 +6,7 @@ use Rattle.texts.specs.Fields.{field_forms, begins}
 use Rattle.sheet.proofs.forms.fields_stand.Given as goal
 
 abbrev pub invariant-loop-left : goal.invariant-loop-left
-invariant-loop-left l = (begins (field_forms l.n) (drop l.at l.text) ≡ begins (field_forms left) (drop l.left l.text)) × (l.left + 18 * left ≤ length l.text)
+invariant-loop-left l = (begins (field_forms l.n) (drop l.at l.text) ≡ begins (field_forms l.left) (drop l.here l.text)) × (l.here + 18 * l.left ≤ length l.text)
 
 abbrev pub decreases-loop-left : goal.decreases-loop-left
-decreases-loop-left l = left
+decreases-loop-left l = l.left

@@ -22,5 +22,8 @@ slice_bounds-put_line-end c = spelled_long _ _ c.name-name.ensures
 
 pub returns : goal.returns
 returns c =
-    line_by_name _ _ c.name-name.ensures.front _ _ _ (c.if-values-count.false ∙ c.count.ensures) _ _
-    c.put_line.ensures.told c.put_line.ensures.put
+    let args = c.args in
+    let parts =
+        line_by_name args.self _ c.name-name.ensures.front args.values.now args.text.now args.at (c.if-values-count.false ∙ c.count.ensures) _ _
+        c.put_line.ensures.told c.put_line.ensures.put in
+    record { told = parts.0; put = parts.1 }
