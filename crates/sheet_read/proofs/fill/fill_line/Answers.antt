@@ -13,14 +13,14 @@ less : (c : After-field) → c.loop-i.i < field_count c.args.line
 less c = rw c.count.ensures at c.loop-i-test.true
 
 room : (c : After-field) → c.args.to + c.loop-i.i < length c.loop-i.out
-room c = let h = less c in let long = c.loop-i.invariant.1 in let fits = c.pre.1 in omega arith
+room c = let h = less c in let long = c.loop-i.invariant.1 in let fits = c.requires.1 in omega arith
 
 pub loop-i-init : goal.loop-i-init
 loop-i-init c = (rw add-zero, refl)
 
 pub field-requires : goal.field-requires
 field-requires c =
-    (c.pre.0, rw c.count.ensures at c.loop-i-test.true)
+    (c.requires.0, rw c.count.ensures at c.loop-i-test.true)
 
 pub overflow_add-out : goal.overflow_add-out
 overflow_add-out c = omega (arith, room c)

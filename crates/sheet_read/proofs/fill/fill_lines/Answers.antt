@@ -10,7 +10,7 @@ use Rattle.sheet_read.specs.Scan.{numbers_in}
 use Rattle.sheet_read.proofs.Leads.{lead_front, lead_next}
 use Rattle.sheet_read.proofs.Places.{line_past}
 use Rattle.sheet_read.proofs.Fills.{line_fits, rest_fits, line_turn, line_end}
-use Rattle.sheet_read.proofs.fill.fill_lines.Goals.{After-count-to, After-fill_line-arg-1, In-loop-left}
+use Rattle.sheet_read.proofs.fill.fill_lines.Goals.{In-loop-left}
 use Rattle.sheet_read.proofs.fill.fill_lines.Goals as goal
 
 front : (c : In-loop-left) →
@@ -19,30 +19,27 @@ front c =
     lead_front c.args.line c.loop-left.left c.args.text.now c.loop-left.here c.loop-left.invariant.1
     c.loop-left-test.true
 
-fits : (c : After-fill_line-arg-1) →
+fits : (c : In-loop-left) →
     c.loop-left.to + field_count c.args.line ≤ length c.loop-left.out
 fits c =
     line_fits c.args.line c.args.text.now c.loop-left.here c.loop-left.left c.loop-left-test.true
     c.loop-left.invariant.1 c.loop-left.out c.loop-left.to c.loop-left.invariant.2
-
-more : (c : After-count-to) → 0 < c.loop-left.left
-more c = c.loop-left-test.true
 
 pub loop-left-init : goal.loop-left-init
 loop-left-init c =
     (refl, c.requires.0, omega (arith, c.requires.1), refl)
 
 pub fill_line-requires : goal.fill_line-requires
-fill_line-requires c = (front (goal.at.fill_line-requires c).In-loop-left, fits c)
+fill_line-requires c = (front (goal.at.fill_line-requires c).In-loop-left, fits (goal.at.fill_line-requires c).In-loop-left)
 
 pub overflow_add-here : goal.overflow_add-here
 overflow_add-here c =
     let wide = c.width-here.ensures in
-    let past = line_past c.args.line c.args.text.now c.loop-left.here (front c) in omega arith
+    let past = line_past c.args.line c.args.text.now c.loop-left.here (front (goal.at.overflow_add-here c).In-loop-left) in omega arith
 
 pub overflow_add-to : goal.overflow_add-to
 overflow_add-to c =
-    let few = c.count-to.ensures in let room = fits c in omega arith
+    let few = c.count-to.ensures in let room = fits (goal.at.overflow_add-to c).In-loop-left in omega arith
 
 pub loop-left-preserved : goal.loop-left-preserved
 loop-left-preserved c = (
@@ -52,15 +49,15 @@ loop-left-preserved c = (
     c.fill_line.ensures,
   )
       (c.loop-left.invariant.0
-      ∙ line_turn c.args.line c.args.text.now c.loop-left.here c.loop-left.left (more c)
+      ∙ line_turn c.args.line c.args.text.now c.loop-left.here c.loop-left.left c.loop-left-test.true
       c.loop-left.invariant.1 c.loop-left.out c.loop-left.to c.loop-left.invariant.2),
   rw c.width-here.ensures
       (lead_next c.args.line c.loop-left.left c.args.text.now c.loop-left.here
-      c.loop-left.invariant.1 (more c)),
-  rw (c.count-to.ensures, c.out-1.given)
-      (rest_fits c.args.line c.args.text.now c.loop-left.here c.loop-left.left (more c)
+      c.loop-left.invariant.1 c.loop-left-test.true),
+  rw (c.count-to.ensures, c.fill_line.auto.out)
+      (rest_fits c.args.line c.args.text.now c.loop-left.here c.loop-left.left c.loop-left-test.true
       c.loop-left.invariant.1 c.loop-left.out c.loop-left.to c.loop-left.invariant.2),
-  c.out-1.given ∙ c.loop-left.invariant.3,
+  c.fill_line.auto.out ∙ c.loop-left.invariant.3,
 )
 
 pub shape_of-out : goal.shape_of-out

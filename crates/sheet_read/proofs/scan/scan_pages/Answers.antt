@@ -20,45 +20,42 @@ use Rattle.sheet_read.proofs.Stages.{counted_turn, counted_end, page_turn, page_
 use Rattle.sheet_read.proofs.scan.scan_pages.Goals.{At-loop-number, In-loop-number}
 use Rattle.sheet_read.proofs.scan.scan_pages.Goals as goal
 
-abbrev text : At-loop-number → List ℕ
-text c = c.args.text.now
-
 -- none is left to count: these are the pages
 counted : (c : At-loop-number) →
     let at = c.args.at in
-    page_count c.loop-number.least (lines (drop c.loop-number.here (text c))) ≡ 0
-    → Found Page (page_count 0 (lines (drop at (text c)))) (text c) at (stage at c.loop-number.n)
-counted c none = found Page _ (text c) _ _ c.requires (counted_end _ c.loop-number.invariant.0 none) (lead_pages 0 _)
+    page_count c.loop-number.least (lines (drop c.loop-number.here c.args.text.now)) ≡ 0
+    → Found Page (page_count 0 (lines (drop at c.args.text.now))) c.args.text.now at (stage at c.loop-number.n)
+counted c none = found Page _ c.args.text.now _ _ c.requires (counted_end _ c.loop-number.invariant.0 none) (lead_pages 0 _)
 
 -- a page line stands here
 begun : (c : In-loop-number) →
-    begins (form Page) (drop c.loop-number.here (text (TODO c).At-loop-number)) ≡ true
+    begins (form Page) (drop c.loop-number.here c.args.text.now) ≡ true
 begun c = sym c.stands.ensures ∙ c.loop-number-test.true
 
 past : (c : In-loop-number) →
-    c.loop-number.here + width Page ≤ length (text (TODO c).At-loop-number)
+    c.loop-number.here + width Page ≤ length c.args.text.now
 past c =
-    line_past Page (text (TODO c).At-loop-number) c.loop-number.here (begun c)
+    line_past Page c.args.text.now c.loop-number.here (begun c)
 
 pub loop-number-init : goal.loop-number-init
 loop-number-init c = (omega arith, omega arith)
 
 pub field-requires : goal.field-requires
-field-requires c = (begun c, omega arith)
+field-requires c = (begun (goal.at.field-requires c).In-loop-number, omega arith)
 
 pub returns-then-number-least : goal.returns-then-number-least
 returns-then-number-least c =
     counted (goal.at.returns-then-number-least c).At-loop-number
-    (page_low (text (goal.at.returns-then-number-least c).At-loop-number) c.loop-number.here _ _ (begun (goal.at.returns-then-number-least c).In-loop-number) c.field.ensures (rw c.page_number-number.ensures at c.if-number-least.true))
+    (page_low c.args.text.now c.loop-number.here _ _ (begun (goal.at.returns-then-number-least c).In-loop-number) c.field.ensures (rw c.page_number-number.ensures at c.if-number-least.true))
 
 pub overflow_add-least : goal.overflow_add-least
 unfolding Below
 overflow_add-least c =
-    let small = number_room _ (values_below Page (take (width Page) (drop c.loop-number.here (text c))) 0) in
+    let small = number_room _ (values_below Page (take (width Page) (drop c.loop-number.here c.args.text.now)) 0) in
     rw (c.page_number-number.ensures, c.field.ensures) (omega (arith, small))
 
 pub overflow_add-n : goal.overflow_add-n
-overflow_add-n c = omega (arith, past c)
+overflow_add-n c = omega (arith, past (goal.at.overflow_add-n c).In-loop-number)
 
 pub past-here-requires : goal.past-here-requires
 past-here-requires c = omega (arith, past (goal.at.past-here-requires c).In-loop-number)
@@ -71,11 +68,11 @@ loop-number-preserved c =
     rw (c.past-here.ensures, c.page_number-number.ensures)
     ((
       counted_turn _ _ _ c.loop-number.invariant.0
-          (page_turn (text (goal.at.loop-number-preserved c).At-loop-number) c.loop-number.here _ _ (begun (goal.at.loop-number-preserved c).In-loop-number) c.field.ensures
+          (page_turn c.args.text.now c.loop-number.here _ _ (begun (goal.at.loop-number-preserved c).In-loop-number) c.field.ensures
           (rw c.page_number-number.ensures at c.if-number-least.false)),
       omega arith,
     ))
 
 pub returns : goal.returns
 returns c =
-    counted (goal.at.returns c).At-loop-number (page_end (text (goal.at.returns c).At-loop-number) c.loop-number.here _ (sym c.stands.ensures ∙ c.loop-number-test.false))
+    counted (goal.at.returns c).At-loop-number (page_end c.args.text.now c.loop-number.here _ (sym c.stands.ensures ∙ c.loop-number-test.false))

@@ -11,45 +11,39 @@ use Rattle.sheet.specs.declared.line.Line.{Line}
 use Rattle.sheet_read.proofs.Places.{line_past}
 use Rattle.sheet_read.proofs.Stages.{counted_turn, counted_end, plain_turn, plain_end, lead_plain}
 use Rattle.sheet_read.proofs.Bodies.{found}
-use Rattle.sheet_read.proofs.scan.scan_plain.Goals.{At-loop-line, In-loop-line}
+use Rattle.sheet_read.proofs.scan.scan_plain.Goals.{In-loop-line}
 use Rattle.sheet_read.proofs.scan.scan_plain.Goals as goal
-
-abbrev text : At-loop-line → List ℕ
-text c = c.args.text.now
-
-abbrev kind : At-loop-line → Line
-kind c = c.args.line
 
 -- a line of the kind stands here
 begun : (c : In-loop-line) →
-    begins (form (kind (TODO c).At-loop-line)) (drop c.loop-line.here (text (TODO c).At-loop-line)) ≡ true
+    begins (form c.args.line) (drop c.loop-line.here c.args.text.now) ≡ true
 begun c = sym c.stands.ensures ∙ c.loop-line-test.true
 
 past : (c : In-loop-line) →
-    c.loop-line.here + width (kind (TODO c).At-loop-line) ≤ length (text (TODO c).At-loop-line)
+    c.loop-line.here + width c.args.line ≤ length c.args.text.now
 past c =
-    line_past (kind (TODO c).At-loop-line) (text (TODO c).At-loop-line) c.loop-line.here (begun c)
+    line_past c.args.line c.args.text.now c.loop-line.here (begun c)
 
 pub loop-line-init : goal.loop-line-init
 loop-line-init c = (omega arith, omega arith)
 
 pub overflow_add-n : goal.overflow_add-n
-overflow_add-n c = omega (arith, past c)
+overflow_add-n c = omega (arith, past (goal.at.overflow_add-n c).In-loop-line)
 
 pub overflow_add-here : goal.overflow_add-here
-overflow_add-here c = omega (arith, past c, c.width-here.ensures)
+overflow_add-here c = omega (arith, past (goal.at.overflow_add-here c).In-loop-line, c.width-here.ensures)
 
 pub loop-line-smaller : goal.loop-line-smaller
 loop-line-smaller c = omega (arith, past (goal.at.loop-line-smaller c).In-loop-line, c.width-here.ensures)
 
 pub loop-line-preserved : goal.loop-line-preserved
 loop-line-preserved c = (
-  rw c.width-here.ensures (counted_turn _ _ _ c.loop-line.invariant.0 (plain_turn (kind (goal.at.loop-line-preserved c).At-loop-line) (text (goal.at.loop-line-preserved c).At-loop-line) c.loop-line.here (begun (goal.at.loop-line-preserved c).In-loop-line))),
+  rw c.width-here.ensures (counted_turn _ _ _ c.loop-line.invariant.0 (plain_turn c.args.line c.args.text.now c.loop-line.here (begun (goal.at.loop-line-preserved c).In-loop-line))),
   omega (arith, c.width-here.ensures),
 )
 
 pub returns : goal.returns
 returns c =
-    found (kind (goal.at.returns c).At-loop-line) _ (text (goal.at.returns c).At-loop-line) _ _ c.requires
-    (counted_end _ c.loop-line.invariant.0 (plain_end (kind (goal.at.returns c).At-loop-line) (text (goal.at.returns c).At-loop-line) c.loop-line.here (sym c.stands.ensures ∙ c.loop-line-test.false)))
-    (lead_plain (kind (goal.at.returns c).At-loop-line) _)
+    found c.args.line _ c.args.text.now _ _ c.requires
+    (counted_end _ c.loop-line.invariant.0 (plain_end c.args.line c.args.text.now c.loop-line.here (sym c.stands.ensures ∙ c.loop-line-test.false)))
+    (lead_plain c.args.line _)

@@ -8,32 +8,29 @@ use Rattle.texts.specs.Fields.{begins}
 use Rattle.sheet.specs.Lines.{form}
 use Rattle.sheet.specs.declared.line.Line.TheVariants.{Sheet}
 use Rattle.sheet_read.proofs.Bodies.{no_sheet_lem, other_version, no_state, headed}
-use Rattle.sheet_read.proofs.scan.scan_sheet.Goals.{After-stands, Else-not-stands}
+use Rattle.sheet_read.proofs.scan.scan_sheet.Goals.{Else-not-stands}
 use Rattle.sheet_read.proofs.scan.scan_sheet.Goals as goal
 
-abbrev text : After-stands → List ℕ
-text c = c.args.text.now
-
 -- the line of the version
-begun : (c : Else-not-stands) → begins (form Sheet) (text (TODO c).After-stands) ≡ true
+begun : (c : Else-not-stands) → begins (form Sheet) c.args.text.now ≡ true
 begun c = sym c.stands.ensures ∙ c.if-not-stands.false
 
 pub returns-then-not-stands : goal.returns-then-not-stands
-returns-then-not-stands c = no_sheet_lem (text (goal.at.returns-then-not-stands c).After-stands) (sym c.stands.ensures ∙ c.if-not-stands.true)
+returns-then-not-stands c = no_sheet_lem c.args.text.now (sym c.stands.ensures ∙ c.if-not-stands.true)
 
 pub field-requires : goal.field-requires
 field-requires c = (begun c, omega arith)
 
 pub returns-then-field-ne-VERSION : goal.returns-then-field-ne-VERSION
 returns-then-field-ne-VERSION c =
-    other_version (text (goal.at.returns-then-field-ne-VERSION c).After-stands) (begun (goal.at.returns-then-field-ne-VERSION c).Else-not-stands) _ c.field.ensures c.if-field-ne-VERSION.true
+    other_version c.args.text.now (begun (goal.at.returns-then-field-ne-VERSION c).Else-not-stands) _ c.field.ensures c.if-field-ne-VERSION.true
 
 pub returns-then-not-stands-2 : goal.returns-then-not-stands-2
 returns-then-not-stands-2 c =
-    no_state (text (goal.at.returns-then-not-stands-2 c).After-stands) (begun (goal.at.returns-then-not-stands-2 c).Else-not-stands) _ c.field.ensures c.if-field-ne-VERSION.false _ c.width-at.ensures
+    no_state c.args.text.now (begun (goal.at.returns-then-not-stands-2 c).Else-not-stands) _ c.field.ensures c.if-field-ne-VERSION.false _ c.width-at.ensures
     (sym c.stands-2.ensures ∙ c.if-not-stands-2.true)
 
 pub scan_body-requires : goal.scan_body-requires
 scan_body-requires c =
-    headed (text (goal.at.scan_body-requires c).After-stands) (begun (goal.at.scan_body-requires c).Else-not-stands) _ c.field.ensures c.if-field-ne-VERSION.false _ c.width-at.ensures
+    headed c.args.text.now (begun (goal.at.scan_body-requires c).Else-not-stands) _ c.field.ensures c.if-field-ne-VERSION.false _ c.width-at.ensures
     (sym c.stands-2.ensures ∙ c.if-not-stands-2.false)

@@ -8,32 +8,28 @@ use lib.ListN.{length}
 use Rattle.texts.specs.Fields.{lines}
 use Rattle.sheet.specs.Lines.{width}
 use Rattle.sheet.specs.declared.line.Line.TheVariants.{Page, Word}
-use Rattle.sheet_read.specs.Scan.{end_of}
+use Rattle.sheet_read.specs.declared.stage.Stage.{Stage}
+use Rattle.sheet_read.specs.Scan.{end_of, Stands}
 use Rattle.sheet_read.proofs.Leads.{lead_front, lead_end, lead_next}
 use Rattle.sheet_read.proofs.Stages.{counted_turn, counted_end, lead_words}
 use Rattle.sheet_read.proofs.Bodies.{found}
 use Rattle.sheet_read.proofs.Pages.{page_end, words_next, words_none}
-use Rattle.sheet_read.proofs.scan.scan_words.Goals.{After-shared_slice_known-1, After-words_of_page-found, At-loop-left}
+use Rattle.sheet_read.proofs.scan.scan_words.Goals.{After-words_of_page-found}
 use Rattle.sheet_read.proofs.scan.scan_words.Goals as goal
 
 -- all page lines lie within the text
-room : (c : After-shared_slice_known-1) → end_of Page c.args.pages ≤ length c.args.text.now
-room c =
-    let pages = c.args.pages in
-    lead_end Page pages.count c.args.text.now pages.at c.requires.1 c.requires.0
+room : (pages : Stage) (t : List ℕ) → Stands Page pages t → pages.at ≤ length t → end_of Page pages ≤ length t
+room pages t stand inside = lead_end Page pages.count t pages.at stand inside
 
-abbrev text : At-loop-left → List ℕ
-text c = c.args.text.now
-
-past : (c : After-words_of_page-found) → c.loop-left.here + width Word * c.words_of_page-found.result ≤ length (text (TODO c).At-loop-left)
-past c = page_end (text (TODO c).At-loop-left) c.loop-left.here c.field.result _ c.words_of_page-found.ensures c.loop-left.invariant.3
+past : (c : After-words_of_page-found) → c.loop-left.here + width Word * c.words_of_page-found.result ≤ length c.args.text.now
+past c = page_end c.args.text.now c.loop-left.here c.field.result _ c.words_of_page-found.ensures c.loop-left.invariant.3
 
 pub loop-left-init : goal.loop-left-init
-loop-left-init c = (sym (zero-add _), c.requires.1, omega arith, c.requires.2, room c)
+loop-left-init c = (sym (zero-add _), c.requires.1, omega arith, c.requires.2, room _ _ c.requires.1 c.requires.0)
 
 pub field-requires : goal.field-requires
 field-requires c =
-    (lead_front Page c.loop-left.left (text (goal.at.field-requires c).At-loop-left) c.loop-left.page c.loop-left.invariant.1 c.loop-left-test.true, omega arith)
+    (lead_front Page c.loop-left.left c.args.text.now c.loop-left.page c.loop-left.invariant.1 c.loop-left-test.true, omega arith)
 
 pub words_of_page-found-requires : goal.words_of_page-found-requires
 words_of_page-found-requires c = c.loop-left.invariant.3
@@ -48,10 +44,10 @@ pub loop-left-preserved : goal.loop-left-preserved
 loop-left-preserved c =
     rw (c.past-page.ensures, c.past-here.ensures)
     ((
-      counted_turn _ _ _ c.loop-left.inv.0
-          (words_next (text (goal.at.loop-left-preserved c).At-loop-left) c.loop-left.left c.loop-left.page c.loop-left.here _ _ c.loop-left-test.true
-          c.loop-left.inv.1 c.field.ensures c.words_of_page-found.ensures),
-      lead_next Page c.loop-left.left (text (goal.at.loop-left-preserved c).At-loop-left) c.loop-left.page c.loop-left.inv.1 c.loop-left-test.true,
+      counted_turn _ _ _ c.loop-left.invariant.0
+          (words_next c.args.text.now c.loop-left.left c.loop-left.page c.loop-left.here _ _ c.loop-left-test.true
+          c.loop-left.invariant.1 c.field.ensures c.words_of_page-found.ensures),
+      lead_next Page c.loop-left.left c.args.text.now c.loop-left.page c.loop-left.invariant.1 c.loop-left-test.true,
       omega (arith, past (goal.at.loop-left-preserved c).After-words_of_page-found),
       past (goal.at.loop-left-preserved c).After-words_of_page-found,
       omega arith,
@@ -59,5 +55,5 @@ loop-left-preserved c =
 
 pub returns : goal.returns
 returns c =
-    found Word _ (text (goal.at.returns c).At-loop-left) _ _ c.requires.2
+    found Word _ c.args.text.now _ _ c.requires.2
     (counted_end _ c.loop-left.invariant.0 (words_none _ c.loop-left.left _ _ c.loop-left-test.false)) (lead_words _ _)

@@ -7,28 +7,22 @@ use Rattle.pages.proofs.Laws.{page_end}
 use Rattle.sheet.specs.Lines.{width}
 use Rattle.sheet.specs.declared.line.Line.TheVariants.{Word}
 use Rattle.sheet_read.proofs.Stages.{counted_turn, counted_end, count_start, slot_end, count_turn, count_none, few_lines}
-use Rattle.sheet_read.proofs.scan.words_of_page.Goals.{After-line_count-found, At-loop-slot}
+use Rattle.sheet_read.proofs.scan.words_of_page.Goals.{After-line_count-found}
 use Rattle.sheet_read.proofs.scan.words_of_page.Goals as goal
-
-abbrev text : At-loop-slot → List ℕ
-text c = c.args.text.now
-
-abbrev base : At-loop-slot → ℕ
-base c = c.page_of-base.result
 
 few : (c : After-line_count-found) → c.line_count-found.result ≤ 1
 few c = rw c.line_count-found.ensures (few_lines c.slot_value.result)
 
-past : (c : After-line_count-found) → c.loop-slot.here + width Word * c.line_count-found.result ≤ length (text (TODO c).At-loop-slot)
+past : (c : After-line_count-found) → c.loop-slot.here + width Word * c.line_count-found.result ≤ length c.args.text.now
 past c =
-    slot_end (text (TODO c).At-loop-slot) c.loop-slot.here (base (TODO c).At-loop-slot) c.loop-slot.slot _ _ c.slot_value.ensures
+    slot_end c.args.text.now c.loop-slot.here c.page_of-base.result c.loop-slot.slot _ _ c.slot_value.ensures
     c.line_count-found.ensures c.loop-slot.invariant.1
 
 pub loop-slot-init : goal.loop-slot-init
 loop-slot-init c = (count_start _ _, omega arith, omega arith, omega arith)
 
-pub overflow_add-slot-value : goal.overflow_add-slot-value
-overflow_add-slot-value c =
+pub overflow_add-base : goal.overflow_add-base
+overflow_add-base c =
     let base-is = c.page_of-base.ensures in
     let end = page_end _ c.ranges.entry.fits in
     omega arith
@@ -43,8 +37,8 @@ pub loop-slot-preserved : goal.loop-slot-preserved
 loop-slot-preserved c =
     rw c.past-here.ensures
     ((
-      counted_turn _ _ _ c.loop-slot.inv.0
-          (count_turn (text (goal.at.loop-slot-preserved c).At-loop-slot) c.loop-slot.here (base (goal.at.loop-slot-preserved c).At-loop-slot) c.loop-slot.slot _ _ c.slot_value.ensures
+      counted_turn _ _ _ c.loop-slot.invariant.0
+          (count_turn c.args.text.now c.loop-slot.here c.page_of-base.result c.loop-slot.slot _ _ c.slot_value.ensures
           c.line_count-found.ensures c.loop-slot-test.true),
       past (goal.at.loop-slot-preserved c).After-line_count-found,
       omega (arith, few (goal.at.loop-slot-preserved c).After-line_count-found),

@@ -25,14 +25,14 @@ stands c =
     c.number.ensures
     ∙ rw c.first.ensures (numeral_at args.line args.text.now args.at c.requires.0 args.i c.requires.1)
 
-pub overflow_add-number : goal.overflow_add-number
-overflow_add-number c = omega (arith, inside c)
+pub overflow_add-at : goal.overflow_add-at
+overflow_add-at c = omega (arith, inside c)
 
-pub overflow_mul-number : goal.overflow_mul-number
-overflow_mul-number c = omega (arith, inside c)
+pub overflow_mul-i : goal.overflow_mul-i
+overflow_mul-i c = omega (arith, inside c)
 
-pub overflow_add-number-2 : goal.overflow_add-number-2
-overflow_add-number-2 c = omega (arith, inside c)
+pub overflow_add-at-2 : goal.overflow_add-at-2
+overflow_add-at-2 c = omega (arith, inside c)
 
 pub returns-in-Number : goal.returns-in-Number
 returns-in-Number c = number_same (sym (stands (goal.at.returns-in-Number c).After-number) ∙ c.in-Number.is)
