@@ -89,7 +89,7 @@ fn fill_all(
     words: &mut [u64],
 )
     requires { Shaped text.now shape × (fields ≤ length state.old) × (shape.pages.count ≤ length pages.old) × (page_bytes * shape.pages.count ≤ length bytes.old) × (instruction_words * shape.steps.count ≤ length words.old) }
-    ensures { record { state = state.exit.now; pages = pages.new; bytes = bytes.new; words = words.new } ≡ filled (run_at text.now shape) (record { state = state.entry.now; pages = pages.old; bytes = bytes.old; words = words.old }) }
+    ensures { record { state = state.new; pages = pages.new; bytes = bytes.new; words = words.new } ≡ filled (run_at text.now shape) (record { state = state.old; pages = pages.old; bytes = bytes.old; words = words.old }) }
 {
     fill_lines(Line::State, text, shape.state, state);
     fill_lines(Line::Page, text, shape.pages, pages);
@@ -107,7 +107,7 @@ fn load(
     words: &mut [u64],
 ) -> Reading
     requires { Shaped text.now shape × (shape.pages.count ≤ page_limit) }
-    ensures { record { answer = result; buffers = record { state = state.exit.now; pages = pages.new; bytes = bytes.new; words = words.new } } ≡ by_test Passed (run_at text.now shape) (record { state = state.entry.now; pages = pages.old; bytes = bytes.old; words = words.old }) }
+    ensures { record { answer = result; buffers = record { state = state.new; pages = pages.new; bytes = bytes.new; words = words.new } } ≡ by_test Passed (run_at text.now shape) (record { state = state.old; pages = pages.old; bytes = bytes.old; words = words.old }) }
 {
     let held = PAGE_BYTES * shape.pages.count;
     let listed = INSTRUCTION_WORDS * shape.steps.count;
@@ -137,7 +137,7 @@ pub fn read(
     bytes: &mut [u8],
     words: &mut [u64],
 ) -> Reading
-    ensures { record { answer = result; buffers = record { state = state.exit.now; pages = pages.new; bytes = bytes.new; words = words.new } } ≡ reads text.now (record { state = state.entry.now; pages = pages.old; bytes = bytes.old; words = words.old }) }
+    ensures { record { answer = result; buffers = record { state = state.new; pages = pages.new; bytes = bytes.new; words = words.new } } ≡ reads text.now (record { state = state.old; pages = pages.old; bytes = bytes.old; words = words.old }) }
 {
     match scan_sheet(text) {
         Scan::NoSheet(line) => Reading::NoSheet(line),
