@@ -41,7 +41,7 @@ fn text_length(pages: usize, values: usize, steps: usize) -> usize
 // Writes a run that is not refused.
 fn print(state: &[u64], pages: &[u64], bytes: &[u8], words: &[u64], text: &mut [u8]) -> Writing
     requires { tested (record { state = state.now; pages = pages.now; bytes = bytes.now; words = words.now }) ≡ Passed }
-    ensures { record { answer = result; text = text.new } ≡ printed (text_of (saved_of (record { state = state.entry.now; pages = pages.now; bytes = bytes.now; words = words.now }))) text.old }
+    ensures { record { answer = result; text = text.new } ≡ printed (text_of (saved_of (record { state = state.now; pages = pages.now; bytes = bytes.now; words = words.now }))) text.old }
 {
     let long = text_length(pages.len(), nonzero(bytes), words.len() / INSTRUCTION_WORDS);
     if text.len() < long {
@@ -54,7 +54,7 @@ fn print(state: &[u64], pages: &[u64], bytes: &[u8], words: &[u64], text: &mut [
 // Writes a run's sheet to the front of the text. A run that is refused before its first step, and one whose sheet does not fit, change
 // nothing.
 pub fn write(state: &[u64], pages: &[u64], bytes: &[u8], words: &[u64], text: &mut [u8]) -> Writing
-    ensures { record { answer = result; text = text.new } ≡ writes (record { state = state.entry.now; pages = pages.now; bytes = bytes.now; words = words.now }) text.old }
+    ensures { record { answer = result; text = text.new } ≡ writes (record { state = state.now; pages = pages.now; bytes = bytes.now; words = words.now }) text.old }
 {
     match replay::check(pages, bytes.len(), good_state(state), words.len()) {
         Tested::Failed(refusal) => Writing::Refused(refusal),
