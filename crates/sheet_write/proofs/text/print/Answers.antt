@@ -1,6 +1,7 @@
 -- `print` meets its contract: the text is as long as was counted, and is laid where it fits. Assumes nothing.
 use Prim.Native.Nat.{ℕ, ◌/◌}
 use mathlib.Core.Path.{◌≡◌, sym, ◌∙◌, ap}
+use mathlib.Core.List.{List}
 use native.Mathlib.Omega.{arith}
 use lib.ListN.{length}
 use Rattle.state_words.proofs.Laws.{good_fields}
@@ -9,29 +10,26 @@ use Rattle.sheet.specs.Lent.{Buffers}
 use Rattle.sheet.specs.Sheets.{text, saved_of}
 use Rattle.sheet.proofs.TestedLaws.{Passes, passes}
 use Rattle.sheet_write.specs.Laying.{text_length}
+use Rattle.sheet_write.specs.Values.{nonzeros}
 use Rattle.sheet_write.proofs.Answers.{too_long, done}
 use Rattle.sheet_write.proofs.Apart.{lent}
 use Rattle.sheet_write.proofs.Sizes.{nonzeros_most, text_size}
-use Rattle.sheet_write.proofs.text.print.Goals.{After-text_length-long, Start}
 use Rattle.sheet_write.proofs.text.print.Goals as goal
 
-abbrev run : Start → Buffers
-run c = record { state = c.args.state.now; pages = c.args.pages.now; bytes = c.args.bytes.now; words = c.args.words.now }
-
-tested : (c : Start) → Passes (run c)
-tested c = passes (run c) c.requires
+abbrev run : List ℕ → List ℕ → List ℕ → List ℕ → Buffers
+run state pages bytes words = record { state = state; pages = pages; bytes = bytes; words = words }
 
 -- the count is the text's length
-long : (c : After-text_length-long) → c.text_length-long.result ≡ length (text (saved_of (run (TODO c).Start)))
-long c =
-    let ready = tested (TODO c).Start in
-    c.text_length-long.ensures
-    ∙ ap (λ (values : ℕ). text_length (length c.args.pages.now) values (length c.args.words.now / instruction_words)) c.nonzero.ensures
-    ∙ sym (text_size (run (TODO c).Start) (good_fields _ ready.state) ready.list.whole)
+long : (lent : Buffers) → Passes lent → (found counted : ℕ) → found ≡ nonzeros (length lent.bytes / 8) lent.bytes
+    → counted ≡ text_length (length lent.pages) found (length lent.words / instruction_words) → counted ≡ length (text (saved_of lent))
+long lent ready found counted found_is counted_is =
+    counted_is
+    ∙ ap (λ (values : ℕ). text_length (length lent.pages) values (length lent.words / instruction_words)) found_is
+    ∙ sym (text_size lent (good_fields _ ready.state) ready.list.whole)
 
 pub text_length-long-requires : goal.text_length-long-requires
 text_length-long-requires c =
-    let ready = tested (goal.at.text_length-long-requires c).Start in
+    let ready = passes (run c.args.state.now c.args.pages.now c.args.bytes.now c.args.words.now) c.requires in
     let pages = ready.list.few in
     let whole = ready.list.whole in
     let most = nonzeros_most (length c.args.bytes.now / 8) c.args.bytes.now in
@@ -39,12 +37,15 @@ text_length-long-requires c =
     (pages, omega arith, ready.few)
 
 pub returns-then-text-long : goal.returns-then-text-long
-returns-then-text-long c = too_long _ _ _ (long (goal.at.returns-then-text-long c).After-text_length-long) c.if-text-long.true
+returns-then-text-long c =
+    let lent = run c.args.state.now c.args.pages.now c.args.bytes.now c.args.words.now in
+    too_long _ _ _ (long lent (passes lent c.requires) _ _ c.nonzero.ensures c.text_length-long.ensures) c.if-text-long.true
 
 pub lay-requires : goal.lay-requires
 lay-requires c =
-    let ready = tested (goal.at.lay-requires c).Start in
-    let long-is = long (goal.at.lay-requires c).After-text_length-long in
+    let given = run c.args.state.now c.args.pages.now c.args.bytes.now c.args.words.now in
+    let ready = passes given c.requires in
+    let long-is = long given ready _ _ c.nonzero.ensures c.text_length-long.ensures in
     let fits = c.if-text-long.false in
     record {
       state_len = (good_fields _ ready.state, lent _ _ ready.list);
@@ -53,4 +54,5 @@ lay-requires c =
 
 pub returns : goal.returns
 returns c =
-    done _ _ _ (long (goal.at.returns c).After-text_length-long) _ c.if-text-long.false c.lay.ensures
+    let lent = run c.args.state.now c.args.pages.now c.args.bytes.now c.args.words.now in
+    done _ _ _ (long lent (passes lent c.requires) _ _ c.nonzero.ensures c.text_length-long.ensures) _ c.if-text-long.false c.lay.ensures
