@@ -14,8 +14,8 @@ loop-k-preserved c =
     let inv = c.loop-k.invariant in
     let value = c.value_at.ensures in
     elim c.if-value_at-ne0.branch [
-      then-value_at-ne0 w ↦ rw w.found-is (counted_more _ _ _ _ h inv (λ e. w.if-value_at-ne0.true (value ∙ e)))
-    | else-value_at-ne0 w ↦ rw w.found-is (counted_zero _ _ _ _ h inv (sym value ∙ w.if-value_at-ne0.false))
+      | then-value_at-ne0 w ↦ rw w.found-is (counted_more _ _ _ _ h inv (λ e. w.if-value_at-ne0.true (value ∙ e)))
+      | else-value_at-ne0 w ↦ rw w.found-is (counted_zero _ _ _ _ h inv (sym value ∙ w.if-value_at-ne0.false))
     ]
 
 pub returns : goal.returns
