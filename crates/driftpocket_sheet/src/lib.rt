@@ -75,8 +75,8 @@ pub extern "C" fn driftpocket_sheet_read(
     words: &mut [u64],
     report: &mut [u64],
 ) -> u64
-    ensures { record { number = result; buffers = record { state = state.exit.now; pages = pages.new; bytes = bytes.new; words = words.new }; report = report.new }
-        ≡ crossed_read text.now (record { state = state.entry.now; pages = pages.old; bytes = bytes.old; words = words.old }) report.old }
+    ensures { record { number = result; buffers = record { state = state.new; pages = pages.new; bytes = bytes.new; words = words.new }; report = report.new }
+        ≡ crossed_read text.now (record { state = state.old; pages = pages.old; bytes = bytes.old; words = words.old }) report.old }
 {
     if report.len() < READ_REPORT {
         return or_no_room(read_nowhere(text)[0]);
@@ -98,7 +98,7 @@ pub extern "C" fn driftpocket_sheet_write(
     report: &mut [u64],
 ) -> u64
     ensures { record { number = result; text = text.new; report = report.new }
-        ≡ crossed_write (record { state = state.entry.now; pages = pages.now; bytes = bytes.now; words = words.now }) text.old report.old }
+        ≡ crossed_write (record { state = state.now; pages = pages.now; bytes = bytes.now; words = words.now }) text.old report.old }
 {
     if report.len() < WRITE_REPORT {
         let mut nowhere: [u8; 0] = [];
