@@ -1,7 +1,6 @@
 -- `begins` meets its contract. The invariant: the whole test is what was told so far, and the test from here on. Assumes nothing.
 use Rattle.texts.proofs.FormLaws.{begins_short}
 use Rattle.sheet.proofs.Turns.{begins_turn, begins_end}
-use Prim.Native.Nat.{◌-◌}
 use mathlib.Core.Path.{refl, sym, ◌∙◌}
 use Rattle.sheet.proofs.forms.begins.Goals as goal
 

@@ -1,6 +1,5 @@
 -- `load` meets its contract: the test is that of the definition, and every buffer is filled where it holds. Assumes nothing.
 use mathlib.Core.Path.{◌≡◌, sym, ◌∙◌}
-use mathlib.Core.Bool.{true}
 use lib.ListN.{length}
 use Rattle.sheet.specs.Lent.{Buffers}
 use Rattle.sheet_read.specs.Reads.{sizes_of}

@@ -1,7 +1,5 @@
 -- `read` meets its contract: the scan, the test and the buffers decide in this order. Assumes nothing.
 use mathlib.Core.Path.{sym, ◌∙◌, subst}
-use mathlib.Core.List.{List}
-use Prim.Native.Nat.{ℕ}
 use Rattle.sheet_read.specs.Scan.{Scanned, Shaped}
 use Rattle.sheet_read.proofs.Saved.{few_pages, refused, passed, no_sheet_lem}
 use Rattle.sheet_read.proofs.buffers.read.Goals.{In-Sheet}

@@ -1,13 +1,11 @@
 -- `scan_plain` meets its contract. The invariant: the lines counted and those from here on are all of them. Assumes nothing.
-use Prim.Native.Nat.{ℕ, ◌+◌, ◌-◌, ◌≤◌}
+use Prim.Native.Nat.{◌+◌, ◌≤◌}
 use mathlib.Core.Path.{◌≡◌, sym, ◌∙◌}
 use mathlib.Core.Bool.{true}
-use mathlib.Core.List.{List}
 use native.Mathlib.Omega.{arith}
 use lib.ListN.{length, drop}
 use Rattle.texts.specs.Fields.{begins}
 use Rattle.sheet.specs.Lines.{form, width}
-use Rattle.sheet.specs.declared.line.Line.{Line}
 use Rattle.sheet_read.proofs.Places.{line_past}
 use Rattle.sheet_read.proofs.Stages.{counted_turn, counted_end, plain_turn, plain_end, lead_plain}
 use Rattle.sheet_read.proofs.Bodies.{found}

@@ -1,8 +1,6 @@
 -- `scan_sheet` meets its contract: its tests are those of the definition. Assumes nothing.
 use mathlib.Core.Path.{◌≡◌, sym, ◌∙◌}
 use mathlib.Core.Bool.{true}
-use mathlib.Core.List.{List}
-use Prim.Native.Nat.{ℕ}
 use native.Mathlib.Omega.{arith}
 use Rattle.texts.specs.Fields.{begins}
 use Rattle.sheet.specs.Lines.{form}

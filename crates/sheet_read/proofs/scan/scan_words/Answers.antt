@@ -5,7 +5,6 @@ use mathlib.Core.List.{List}
 use native.Mathlib.Nat.{zero-add}
 use native.Mathlib.Omega.{arith}
 use lib.ListN.{length}
-use Rattle.texts.specs.Fields.{lines}
 use Rattle.sheet.specs.Lines.{width}
 use Rattle.sheet.specs.declared.line.Line.TheVariants.{Page, Word}
 use Rattle.sheet_read.specs.declared.stage.Stage.{Stage}

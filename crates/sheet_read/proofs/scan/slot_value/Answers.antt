@@ -1,8 +1,6 @@
 -- `slot_value` meets its contract: the tests are those of the definition, but that for a value of 0, which answers 0 itself. Assumes nothing.
-use Prim.Native.Nat.{ℕ}
 use mathlib.Core.Path.{◌≡◌, sym, ◌∙◌}
 use mathlib.Core.Bool.{true}
-use mathlib.Core.List.{List}
 use native.Mathlib.Omega.{arith}
 use lib.ListN.{drop}
 use Rattle.texts.specs.Fields.{begins}

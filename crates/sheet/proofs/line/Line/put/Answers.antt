@@ -24,6 +24,6 @@ pub returns : goal.returns
 returns c =
     let args = c.args in
     let parts =
-        line_by_name args.self _ c.name-name.ensures.front args.values.now args.text.now args.at (c.if-values-count.false ∙ c.count.ensures) _ _
-        c.put_line.ensures.told c.put_line.ensures.put in
+    line_by_name args.self _ c.name-name.ensures.front args.values.now args.text.now args.at (c.if-values-count.false ∙ c.count.ensures) _ _
+    c.put_line.ensures.told c.put_line.ensures.put in
     record { told = parts.0; put = parts.1 }
