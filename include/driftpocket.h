@@ -2,11 +2,11 @@
  * Driftpocket: the replay of Intel shadow-stack (CET) operations, for C99 and C++.
  *
  * driftpocket_run takes a processor state, a page list with its bytes, and a list of instructions, runs the list, and says
- * how it ended. Link it with target/staticlib/libdriftpocket.a, which `rt staticlib driftpocket` proves and writes.
+ * how it ended. Link it with target/staticlib/libdriftpocket.a, which `./build driftpocket` proves and writes.
  *
  * driftpocket_sheet_read and driftpocket_sheet_write turn a run sheet, which is text, into the state, pages, bytes and
- * instructions of a run, and back. Link them with target/staticlib/libdriftpocket_sheet.a, which `rt staticlib
- * driftpocket_sheet` proves and writes.
+ * instructions of a run, and back. Link them with target/staticlib/libdriftpocket_sheet.a, which
+ * `./build driftpocket_sheet` proves and writes.
  *
  * Any numbers may be passed, any text, and any lengths: nothing has to be tested beforehand. What is malformed is refused
  * by a number. A call always comes to an end and keeps nothing between calls.

@@ -1,7 +1,7 @@
 /*
  * A switch of shadow stacks, replayed from C: the worked cases P4 and P5 of docs/RULES.md.
  *
- * From the root of the repository, after `rt staticlib driftpocket`:
+ * From the root of the repository, after `./build`:
  *
  *     cc -std=c99 -Wall -Wextra -Werror -Iinclude examples/c/replay.c target/staticlib/libdriftpocket.a -o target/replay-c
  *     target/replay-c

@@ -2,7 +2,7 @@
  * A run sheet from C: reads the sheet in a file, runs it, and writes the sheet of what was left: the state and the pages as
  * the last completed instruction left them, and the instructions that did not complete.
  *
- * From the root of the repository, after `rt staticlib driftpocket` and `rt staticlib driftpocket_sheet`:
+ * From the root of the repository, after `./build`:
  *
  *     cc -std=c99 -Wall -Wextra -Werror -Iinclude examples/c/sheet.c target/staticlib/libdriftpocket.a \
  *        target/staticlib/libdriftpocket_sheet.a -o target/sheet-c

@@ -11,7 +11,7 @@ use std::process::exit;
 /// The variable that names another directory.
 const VARIABLE: &str = "DRIFTPOCKET_LIB_DIR";
 
-/// The libraries, by the names that `rt staticlib` takes: the replay, and the
+/// The libraries, by the names that `./build` takes: the replay, and the
 /// reader and writer of run sheets.
 const LIBRARIES: [&str; 2] = ["driftpocket", "driftpocket_sheet"];
 
@@ -50,5 +50,5 @@ fn manifest_directory() -> PathBuf {
 /// Says that a library is missing, and what makes it.
 fn complain(library: &str, file: &Path) {
     eprintln!("driftpocket: there is no {}", file.display());
-    eprintln!("driftpocket: run `rt staticlib {library}` first, at the root of the repository");
+    eprintln!("driftpocket: run `./build {library}` first, at the root of the repository");
 }

@@ -84,7 +84,7 @@ fn medians(runs: &[Run]) -> [f64; TIMED.len()] {
 fn print_heading() {
     let [(proved, _), (plain, _), earlier @ ..] = TIMED;
     println!(
-        "The plain replay was built by cargo at level {OPT_LEVEL}, the proved one by `rt staticlib`."
+        "The plain replay was built by cargo at level {OPT_LEVEL}, the proved one by `./build`."
     );
     println!("{RUNS} runs of {INSTRUCTIONS} instructions on 16 pages for each input; both replays");
     println!("complete all of them with the same report, state and bytes.");
