@@ -6,7 +6,7 @@ use Rattle.answers.specs.Answer.{ss, gp}
 use Rattle.processor.specs.State.{enabled, minus, next}
 use Rattle.processor.specs.Layout.{with_ip, with_sp, with_ssp}
 use Rattle.processor.specs.Accesses.{shadow, ordinary}
-use Rattle.processor.specs.Prog.{Prog, done, ◌>>=◌, ◌>>◌, store, unless, only_if}
+use Rattle.processor.specs.Prog.{Prog, done, ◌>>◌, store, unless, only_if}
 use Rattle.processor.specs.declared.state.State.{State}
 use Rattle.targets.specs.Targets.{in_code, pushed, runs_past}
 

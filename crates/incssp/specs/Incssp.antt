@@ -6,7 +6,7 @@ use Rattle.answers.specs.Answer.{ud}
 use Rattle.processor.specs.State.{usable, plus, next}
 use Rattle.processor.specs.Layout.{with_ip, with_ssp}
 use Rattle.processor.specs.Accesses.{shadow}
-use Rattle.processor.specs.Prog.{Prog, done, ◌>>=◌, ◌>>◌, touch, unless, only_if}
+use Rattle.processor.specs.Prog.{Prog, done, ◌>>◌, touch, unless, only_if}
 use Rattle.processor.specs.declared.state.State.{State}
 
 -- `b` is the count register: Range is its low 8 bits. The first and the last element popped are loaded, the first also where Range is 0

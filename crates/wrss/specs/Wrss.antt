@@ -6,7 +6,7 @@ use Rattle.answers.specs.Answer.{ud, gp}
 use Rattle.processor.specs.State.{usable, next}
 use Rattle.processor.specs.Layout.{with_ip}
 use Rattle.processor.specs.Accesses.{shadow}
-use Rattle.processor.specs.Prog.{Prog, done, ◌>>=◌, ◌>>◌, store, unless}
+use Rattle.processor.specs.Prog.{Prog, done, ◌>>◌, store, unless}
 use Rattle.processor.specs.declared.state.State.{State}
 
 -- `permitted` is WR_SHSTK_EN of this CPL; `a` is the address, `b` the value, of which a store takes the low bytes

@@ -7,7 +7,7 @@ use Rattle.numbers.specs.declared.size.Size.{Size}
 use Rattle.answers.specs.Answer.{ud, gp}
 use Rattle.processor.specs.State.{is_long, width_of, next}
 use Rattle.processor.specs.Layout.{with_ip}
-use Rattle.processor.specs.Prog.{Prog, done, ◌>>=◌, ◌>>◌, store, unless}
+use Rattle.processor.specs.Prog.{Prog, done, ◌>>◌, store, unless}
 use Rattle.processor.specs.declared.state.State.{State}
 
 -- CR4.CET, and not mode 0; neither SH_STK_EN nor WR_SHSTK_EN is asked
