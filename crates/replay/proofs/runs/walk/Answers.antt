@@ -12,28 +12,28 @@ use Rattle.replay.specs.Run.{Run, run_from, onward, ends_at}
 use Rattle.perform.specs.Codes.{codes}
 use Rattle.instructions.specs.Instruction.{instruction_at}
 use Rattle.replay.proofs.RunLaws.{goes_on, ends, at_end}
-use Rattle.replay.proofs.runs.walk.Goals.{After-bytes-1}
+use Rattle.replay.proofs.runs.walk.Goals.{After-perform-outcome}
 use Rattle.replay.proofs.runs.walk.Goals as goal
 
 -- what the instruction gave, with the bytes that it left
-abbrev this : After-bytes-1 → Step
+abbrev this : After-perform-outcome → Step
 this c = step_of c.perform-outcome.result c.perform-outcome.new.bytes
 
-performed : (c : After-bytes-1) →
+performed : (c : After-perform-outcome) →
     let args = c.args in
     let loop = c.loop-k in
     perform codes (lookup_of args.pages.now args.bytes.now) (instruction_at args.words.now loop.k) loop.state loop.bytes ≡ this c
 performed c =
-    rw (← c.loop-k.inv.2, ← c.nth.ensures) (sym c.perform-outcome.ensures)
+    rw (← c.loop-k.invariant.2, ← c.nth.ensures) (sym c.perform-outcome.ensures)
 
 -- where its answer does not go on, the run ends with it
-ended : (c : After-bytes-1) → ((more end : Run) → onward (this c).answer more end ≡ end) →
+ended : (c : After-perform-outcome) → ((more end : Run) → onward (this c).answer more end ≡ end) →
     let args = c.args in
     run_from codes (lookup_of args.pages.now args.bytes.now) (instruction_at args.words.now) 0 (length args.words.now / 4) args.state
     args.bytes.now
     ≡ ends_at c.loop-k.k (this c)
 ended c stops =
-    c.loop-k.inv.0 ∙ ends _ _ _ _ _ _ _ c.loop-k-test.taken (this c) (performed c) stops
+    c.loop-k.invariant.0 ∙ ends _ _ _ _ _ _ _ c.loop-k-test.true (this c) (performed c) stops
 
 pub loop-k-init : goal.loop-k-init
 loop-k-init c = let whole : (n : ℕ) → n - 0 ≡ n = λ n. omega arith in
@@ -47,33 +47,33 @@ overflow_add-k c = let h = c.loop-k-test.true in omega arith
 
 pub loop-k-smaller : goal.loop-k-smaller
 loop-k-smaller c =
-    let h = c.loop-k-test.taken in omega arith
+    let h = c.loop-k-test.true in omega arith
 
 pub loop-k-preserved : goal.loop-k-preserved
 loop-k-preserved c =
-    let inv = c.loop-k.inv in (
-      inv.0 ∙ goes_on _ _ _ _ _ _ _ c.loop-k-test.taken (this (goal.at.loop-k-preserved c).After-bytes-1) (performed (goal.at.loop-k-preserved c).After-bytes-1) c.in-Completed.is,
-      c.bytes-1.given ∙ inv.1,
-      lookup_kept _ _ _ (c.bytes-1.given ∙ inv.1),
+    let inv = c.loop-k.invariant in (
+      inv.0 ∙ goes_on _ _ _ _ _ _ _ c.loop-k-test.true (this (goal.at.loop-k-preserved c).After-perform-outcome) (performed (goal.at.loop-k-preserved c).After-perform-outcome) c.in-Completed.is,
+      c.perform-outcome.auto.bytes ∙ inv.1,
+      lookup_kept _ _ _ (c.perform-outcome.auto.bytes ∙ inv.1),
     )
 
 pub shape_of-bytes-in-Refused : goal.shape_of-bytes-in-Refused
 shape_of-bytes-in-Refused c =
-    c.bytes-1.given ∙ c.loop-k.inv.1
+    c.perform-outcome.auto.bytes ∙ c.loop-k.invariant.1
 
 pub returns-in-Refused : goal.returns-in-Refused
 returns-in-Refused c =
     let known = c.in-Refused.is in
-    rw (← known) (sym (ended (goal.at.returns-in-Refused c).After-bytes-1 (λ more end. rw known)))
+    rw (← known) (sym (ended (goal.at.returns-in-Refused c).After-perform-outcome (λ more end. rw known)))
 
 pub shape_of-bytes-in-Faulted : goal.shape_of-bytes-in-Faulted
 shape_of-bytes-in-Faulted c =
-    c.bytes-1.given ∙ c.loop-k.inv.1
+    c.perform-outcome.auto.bytes ∙ c.loop-k.invariant.1
 
 pub returns-in-Faulted : goal.returns-in-Faulted
 returns-in-Faulted c =
     let known = c.in-Faulted.is in
-    rw (← known) (sym (ended (goal.at.returns-in-Faulted c).After-bytes-1 (λ more end. rw known)))
+    rw (← known) (sym (ended (goal.at.returns-in-Faulted c).After-perform-outcome (λ more end. rw known)))
 
 pub shape_of-bytes : goal.shape_of-bytes
 shape_of-bytes c = c.loop-k.invariant.1
