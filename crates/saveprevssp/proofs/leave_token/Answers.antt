@@ -1,15 +1,13 @@
 -- `leave_token` meets its contract: each return cites the way through the definition that leads to it. Assumes nothing.
-use Prim.Native.Nat.{ℕ}
 use mathlib.Core.Path.{◌≡◌, sym, ◌∙◌, ap}
 use mathlib.Core.Bool.{true}
 use mathlib.Core.List.{List}
 use native.Mathlib.Omega.{arith}
-use Rattle.pages.specs.Pages.{Lookup}
 use Rattle.accesses.specs.Access.{lookup_of}
 use Rattle.stores.specs.Stores.{try_all, written_all, left_by}
 use Rattle.stores.specs.declared.Slot.{Slot}
 use Rattle.processor.specs.State.{plus}
-use Rattle.processor.specs.Prog.{Result, interp}
+use Rattle.processor.specs.Prog.{interp}
 use Rattle.processor.specs.Popped.{result_of}
 use Rattle.processor.specs.declared.popped.Popped.{Popped}
 use Rattle.processor.proofs.Laws.{long_small}

@@ -3,7 +3,6 @@ use mathlib.Core.Path.{◌≡◌, sym, ◌∙◌}
 use mathlib.Core.Bool.{false}
 use Rattle.accesses.specs.Access.{lookup_of, load as load_at}
 use Rattle.numbers.specs.declared.size.Size.TheVariants.{Four}
-use Rattle.processor.specs.State.{plus}
 use Rattle.processor.specs.Accesses.{shadow}
 use Rattle.saveprevssp.proofs.SaveprevsspWays.{hole_blocked, hole_filled, hole_popped}
 use Rattle.saveprevssp.proofs.pop_hole.Goals.{After-load}
