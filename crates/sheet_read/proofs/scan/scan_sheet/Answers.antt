@@ -4,6 +4,7 @@ use mathlib.Core.Bool.{true}
 use native.Mathlib.Omega.{arith}
 use Rattle.texts.specs.Fields.{begins}
 use Rattle.sheet.specs.Lines.{form}
+use Rattle.sheet.specs.Sheets.{version}
 use Rattle.sheet.specs.declared.line.Line.TheVariants.{Sheet}
 use Rattle.sheet_read.proofs.Bodies.{no_sheet_lem, other_version, no_state, headed}
 use Rattle.sheet_read.proofs.scan.scan_sheet.Goals.{Else-not-stands}
@@ -25,10 +26,12 @@ returns-then-field-ne-VERSION c =
 
 pub returns-then-not-stands-2 : goal.returns-then-not-stands-2
 returns-then-not-stands-2 c =
-    no_state c.args.text.now (begun (goal.at.returns-then-not-stands-2 c).Else-not-stands) _ c.field.ensures c.if-field-ne-VERSION.false _ c.width-at.ensures
+    let known : c.field.result ≡ version = omega arith in
+    no_state c.args.text.now (begun (goal.at.returns-then-not-stands-2 c).Else-not-stands) _ c.field.ensures known _ c.width-at.ensures
     (sym c.stands-2.ensures ∙ c.if-not-stands-2.true)
 
 pub scan_body-requires : goal.scan_body-requires
 scan_body-requires c =
-    headed c.args.text.now (begun (goal.at.scan_body-requires c).Else-not-stands) _ c.field.ensures c.if-field-ne-VERSION.false _ c.width-at.ensures
+    let known : c.field.result ≡ version = omega arith in
+    headed c.args.text.now (begun (goal.at.scan_body-requires c).Else-not-stands) _ c.field.ensures known _ c.width-at.ensures
     (sym c.stands-2.ensures ∙ c.if-not-stands-2.false)
