@@ -13,13 +13,14 @@ ghost use Rattle.outcome.specs.Fronts.{Holds};
 
 use answers::{NO_ROOM, NO_SHEET};
 use instructions::INSTRUCTION_WORDS;
-use libc::{STDIN_FILENO, STDOUT_FILENO};
 use memory::{PAGE_BYTES, PAGE_LIMIT};
 use processor::{Answer, FIELDS, Refusal, State};
 use replay::INSTRUCTION_LIMIT;
 use sheet_read::Reading;
 use sheet_write::Writing;
 use state_words::Formed;
+use std::io;
+use std::io::Read;
 use texts::{FIELD, put_line};
 
 // The bytes of the longest text that is read: that of as many full pages and instructions as there can be.
@@ -174,14 +175,12 @@ fn outcome(text: &[u8], line: &mut [u8], sheet: &mut [u8]) -> Fronts
     }
 }
 
-fn main() {
-    let mut text = text_buffer();
-    let n = io::read_full(STDIN_FILENO, &mut text);
+fn main(rt: HostRuntime) -> io::Result<()> {
+    let mut text = Vec::new(rt.alloc());
+    rt.stdin().take(TEXT_LIMIT as u64 + 1).read_to_end(&mut text)?;
     let mut line = [0u8; ANSWER_LINE];
     let mut sheet = text_buffer();
-    let fronts = outcome(&text[..n], &mut line, &mut sheet);
-    let line_front = fronts.line;
-    let sheet_front = fronts.sheet;
-    io::write_all(STDOUT_FILENO, &line[..line_front]);
-    io::write_all(STDOUT_FILENO, &sheet[..sheet_front]);
+    let fronts = outcome(&text, &mut line, &mut sheet);
+    rt.write_all(&line[..fronts.line])?;
+    rt.write_all(&sheet[..fronts.sheet])
 }

@@ -7,4 +7,5 @@ use Rattle.outcome.proofs.put_answer.Goals as goal
 pub returns : goal.returns
 unfolding answer_line
 returns c =
-    rw (← c.report-report.ensures) (line_front answer_word (answer_numbers c.args.count c.report-report.result) _ _ 97 refl c.requires c.put_line.ensures.put)
+    let both = line_front answer_word (answer_numbers c.args.count c.report-report.result) _ _ 97 refl c.requires c.put_line.ensures.put in
+    record { fits = both.0; line = rw (← c.report-report.ensures) both.1 }

@@ -8,6 +8,6 @@ use Rattle.outcome.proofs.refuse.Goals as goal
 
 pub returns : goal.returns
 unfolding refused_line
-returns c =
+returns c = λ sheet.
     let front = line_front refused_word (c.args.refusal ∷ c.args.row ∷ []) _ _ 44 refl (omega (arith, c.requires)) c.put_line.ensures.put in
     record { in_line = front.0; in_sheet = omega arith; whole_is = append-nil _ ∙ front.1 }

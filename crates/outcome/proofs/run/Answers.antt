@@ -10,9 +10,9 @@ use Rattle.outcome.proofs.run.Goals as goal
 pub put_left-sheet_front-requires : goal.put_left-sheet_front-requires
 put_left-sheet_front-requires c =
     let same : length c.run-replayed.new.bytes ≡ length c.args.bytes.now = search rules in record {
-      words_value = left_passes _ _ _ _ c.requires.0 (run_of c.run-replayed.result c.run-replayed.new.bytes) c.run-replayed.ensures c.run-replayed.new.bytes _ same
+      words_value = left_passes _ _ _ _ c.requires.words_value (run_of c.run-replayed.result c.run-replayed.new.bytes) c.run-replayed.ensures c.run-replayed.new.bytes _ same
           (left_words c.args.words.now c.done_words-done.result c.run-replayed.result.count c.done_words-done.ensures.1);
-      text_limit_in_bounds = c.requires.1.1;
+      text_limit_in_bounds = c.requires.in_bounds.1;
     }
 
 pub returns : goal.returns
