@@ -1,4 +1,4 @@
--- `walk` meets its contract. The invariant: the whole run is the run from here on, and no byte is added or lost. Assumes nothing.
+-- `walk` meets its contract. The invariant: the whole run is the run from here on, and addresses lead where they led. Assumes nothing.
 use Prim.Native.Nat.{ℕ, ◌-◌, ◌/◌}
 use mathlib.Core.Path.{◌≡◌, refl, sym, ◌∙◌}
 use native.Mathlib.Omega.{arith}
@@ -24,7 +24,7 @@ performed : (c : After-perform-outcome) →
     let loop = c.loop-k in
     perform codes (lookup_of args.pages.now args.bytes.now) (instruction_at args.words.now loop.k) loop.state loop.bytes ≡ this c
 performed c =
-    rw (← c.loop-k.invariant.2, ← c.nth.ensures) (sym c.perform-outcome.ensures)
+    rw (← c.loop-k.invariant.led, ← c.nth.ensures) (sym c.perform-outcome.ensures)
 
 -- where its answer does not go on, the run ends with it
 ended : (c : After-perform-outcome) → ((more end : Run) → onward (this c).answer more end ≡ end) →
@@ -33,50 +33,30 @@ ended : (c : After-perform-outcome) → ((more end : Run) → onward (this c).an
     args.bytes.now
     ≡ ends_at c.loop-k.k (this c)
 ended c stops =
-    c.loop-k.invariant.0 ∙ ends _ _ _ _ _ _ _ c.loop-k-test.true (this c) (performed c) stops
+    c.loop-k.invariant.same_run ∙ ends _ _ _ _ _ _ _ c.loop-k-test.true (this c) (performed c) stops
 
 pub loop-k-init : goal.loop-k-init
-loop-k-init c = let whole : (n : ℕ) → n - 0 ≡ n = λ n. omega arith in
-    (rw (whole (length c.args.words.now / 4)), refl, refl)
-
-pub nth-requires : goal.nth-requires
-nth-requires c = let h = c.loop-k-test.true in omega arith
-
-pub overflow_add-k : goal.overflow_add-k
-overflow_add-k c = let h = c.loop-k-test.true in omega arith
-
-pub loop-k-smaller : goal.loop-k-smaller
-loop-k-smaller c =
-    let h = c.loop-k-test.true in omega arith
+loop-k-init c =
+    let whole : (n : ℕ) → n - 0 ≡ n = λ n. omega arith in
+    record { same_run = rw (whole (length c.args.words.now / 4)); led = refl }
 
 pub loop-k-preserved : goal.loop-k-preserved
 loop-k-preserved c =
-    let inv = c.loop-k.invariant in (
-      inv.0 ∙ goes_on _ _ _ _ _ _ _ c.loop-k-test.true (this (goal.at.loop-k-preserved c).After-perform-outcome) (performed (goal.at.loop-k-preserved c).After-perform-outcome) c.in-Completed.is,
-      c.perform-outcome.auto.bytes ∙ inv.1,
-      lookup_kept _ _ _ (c.perform-outcome.auto.bytes ∙ inv.1),
-    )
-
-pub shape_of-bytes-in-Refused : goal.shape_of-bytes-in-Refused
-shape_of-bytes-in-Refused c =
-    c.perform-outcome.auto.bytes ∙ c.loop-k.invariant.1
+    let after = (goal.at.loop-k-preserved c).After-perform-outcome in
+    record {
+      same_run = c.loop-k.invariant.same_run ∙ goes_on _ _ _ _ _ _ _ c.loop-k-test.true (this after) (performed after) c.in-Completed.is;
+      led = lookup_kept _ _ _ (c.perform-outcome.auto.bytes ∙ c.loop-k.auto.bytes);
+    }
 
 pub returns-in-Refused : goal.returns-in-Refused
 returns-in-Refused c =
     let known = c.in-Refused.is in
     rw (← known) (sym (ended (goal.at.returns-in-Refused c).After-perform-outcome (λ more end. rw known)))
 
-pub shape_of-bytes-in-Faulted : goal.shape_of-bytes-in-Faulted
-shape_of-bytes-in-Faulted c =
-    c.perform-outcome.auto.bytes ∙ c.loop-k.invariant.1
-
 pub returns-in-Faulted : goal.returns-in-Faulted
 returns-in-Faulted c =
     let known = c.in-Faulted.is in
     rw (← known) (sym (ended (goal.at.returns-in-Faulted c).After-perform-outcome (λ more end. rw known)))
 
-pub shape_of-bytes : goal.shape_of-bytes
-shape_of-bytes c = c.loop-k.invariant.1
-
 pub returns : goal.returns
-returns c = sym (c.loop-k.invariant.0 ∙ at_end _ _ _ _ _ _ _ (omega arith))
+returns c = sym (c.loop-k.invariant.same_run ∙ at_end _ _ _ _ _ _ _ (λ h. omega arith))

@@ -1,20 +1,19 @@
 -- `check` meets its contract: its tests are those of the definition, in its order. Assumes nothing.
 use mathlib.Core.Path.{sym, ◌∙◌}
-use borrow.Author.Tests.{not-true, not-false}
 use Rattle.replay.specs.Run.{check_by}
 use Rattle.replay.proofs.steps.check.Goals as goal
 
 pub returns-then-not-good : goal.returns-then-not-good
 unfolding check_by
 returns-then-not-good c =
-    rw (sym c.of.ensures ∙ c.in-Valid.is, not-true c.args.good c.if-not-good.true-raw)
+    rw (sym c.of.ensures ∙ c.in-Valid.is, c.if-not-good.true)
 
 pub returns-then-bad_words : goal.returns-then-bad_words
 unfolding check_by
 returns-then-bad_words c =
     rw (
       sym c.of.ensures ∙ c.in-Valid.is,
-      not-false c.args.good c.if-not-good.false-raw,
+      c.if-not-good.false,
       sym c.bad_words.ensures ∙ c.if-bad_words.true,
     )
 
@@ -39,6 +38,6 @@ unfolding check_by
 returns-else-bad_words c =
     rw (
       sym c.of.ensures ∙ c.in-Valid.is,
-      not-false c.args.good c.if-not-good.false-raw,
+      c.if-not-good.false,
       sym c.bad_words.ensures ∙ c.if-bad_words.false,
     )
