@@ -177,7 +177,9 @@ fn outcome(text: &[u8], line: &mut [u8], sheet: &mut [u8]) -> Fronts
 
 fn main(rt: HostRuntime) -> io::Result<()> {
     let mut text = Vec::new(rt.alloc());
-    rt.stdin().take(TEXT_LIMIT as u64 + 1).read_to_end(&mut text)?;
+    rt.stdin()
+        .take(TEXT_LIMIT as u64 + 1)
+        .read_to_end(&mut text)?;
     let mut line = [0u8; ANSWER_LINE];
     let mut sheet = text_buffer();
     let fronts = outcome(&text, &mut line, &mut sheet);
