@@ -2,7 +2,7 @@
 // left. No contract can speak of what is read and written there; `outcome` says what is written for a text.
 #![tactic(auto)]
 
-ghost use Rattle.std.specs.Prelude.{◌≡◌, List, ℕ, ◌*◌, ◌≤◌, length, take, drop};
+ghost use Rattle.std.specs.Prelude.{◌≡◌, List, ℕ, ◌*◌, ◌≤◌, length, take, drop, IfOk};
 ghost use Rattle.processor.specs.Layout.{words_of};
 ghost use Rattle.replay.specs.Run.{input_of};
 ghost use Rattle.replay.specs.declared.steps.Tested.TheVariants.{Passed};
@@ -175,14 +175,27 @@ fn outcome(text: &[u8], line: &mut [u8], sheet: &mut [u8]) -> Fronts
     }
 }
 
+// Reads until the buffer is full or the input ends, and says how many bytes that were.
+fn read_full<R: Read>(from: &mut R, out: &mut [u8]) -> io::Result<usize>
+    ensures { IfOk result (λ n. n ≤ length out.new) }
+{
+    let mut n = 0;
+    while n < out.len() {
+        let got = from.read(&mut out[n..])?;
+        if got == 0 {
+            break;
+        }
+        n += got;
+    }
+    Ok(n)
+}
+
 fn main(rt: HostRuntime) -> io::Result<()> {
-    let mut text = Vec::new(rt.alloc());
-    rt.stdin()
-        .take(TEXT_LIMIT as u64 + 1)
-        .read_to_end(&mut text)?;
+    let mut text = text_buffer();
+    let n = read_full(&mut rt.stdin(), &mut text)?;
     let mut line = [0u8; ANSWER_LINE];
     let mut sheet = text_buffer();
-    let fronts = outcome(&text, &mut line, &mut sheet);
+    let fronts = outcome(&text[..n], &mut line, &mut sheet);
     rt.write_all(&line[..fronts.line])?;
     rt.write_all(&sheet[..fronts.sheet])
 }
