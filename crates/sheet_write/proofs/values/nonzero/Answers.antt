@@ -1,5 +1,4 @@
 -- `nonzero` meets its contract. The invariant: what was found, and what is still to be found, is the whole count. Assumes nothing.
-use Prim.Native.Nat.{◌-◌}
 use mathlib.Core.Path.{sym, ◌∙◌}
 use Rattle.sheet_write.proofs.ValueLaws.{counted_none, counted_all, counted_zero, counted_more}
 use Rattle.sheet_write.proofs.values.nonzero.Goals.{then-value_at-ne0, else-value_at-ne0}
