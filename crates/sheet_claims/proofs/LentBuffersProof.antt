@@ -10,7 +10,6 @@ use lib.Dec.{leb}
 use Rattle.pages.proofs.Laws.{valid_list, list_valid}
 use Rattle.memory.specs.Extends.{HoldsPages}
 use Rattle.processor.specs.Layout.{fields}
-use Rattle.state_words.specs.Formed.{good_state}
 use Rattle.state_words.proofs.Laws.{good_fields}
 use Rattle.replay.specs.declared.steps.Tested.{Tested}
 use Rattle.replay.specs.declared.steps.Tested.TheVariants.{Passed, Failed}

@@ -1,14 +1,12 @@
 -- What is read as a number: its text, and nothing else. Assumes nothing.
 use Prim.Native.Nat.{ℕ}
-use mathlib.Core.Path.{◌≡◌, refl, sym, ap, ◌∙◌}
+use mathlib.Core.Path.{◌≡◌, refl}
 use mathlib.Core.Bool.{Bool, true, false}
-use mathlib.Core.List.{List, [], ◌∷◌, ◌++◌}
 use native.Mathlib.Omega.{arith}
 use lib.ListN.{length, take, drop}
 use lib.Seq.{take_at}
-use Rattle.texts.specs.Digits.{letter_x, digits, hex, number, value_of}
-use Rattle.texts.specs.Fields.{any_digit, number_form, begins, numeral}
-use Rattle.texts.specs.declared.digits.Numeral.TheVariants.{Number, NoNumber}
+use Rattle.texts.specs.Digits.{digits, hex, number, value_of}
+use Rattle.texts.specs.Fields.{number_form, begins, numeral}
 use Rattle.texts.proofs.DigitLaws.{hex_length, number_length, value_hex}
 use Rattle.texts.proofs.Fields.{number_begins, number_front}
 use Rattle.texts.proofs.FormLaws.{begins_more}

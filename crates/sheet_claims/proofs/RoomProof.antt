@@ -1,7 +1,7 @@
 -- Refusal 8 is given exactly where a result does not fit, and after every other refusal. Assumes nothing.
 use Prim.Native.Nat.{ℕ}
-use mathlib.Core.Path.{◌≡◌, refl, sym, ◌∙◌}
-use mathlib.Core.Bool.{Bool, true, false, true≢false}
+use mathlib.Core.Path.{◌≡◌, refl}
+use mathlib.Core.Bool.{Bool, true, false}
 use mathlib.Core.List.{List}
 use lib.ListN.{length}
 use lib.Dec.{leb}
@@ -15,7 +15,7 @@ use Rattle.sheet.specs.Sheets.{buffers_of, saved_of, text}
 use Rattle.sheet.specs.Reading.{Parsed, sheet, no_sheet, parsed}
 use Rattle.sheet_read.specs.Reads.{read_number, sizes_of, delivered, by_test, by_text, fits, reads}
 use Rattle.sheet_read.proofs.Rooms.{within_parts}
-use Rattle.sheet_write.specs.Writes.{write_number, Written, by_test as written_by_test, printed, writes}
+use Rattle.sheet_write.specs.Writes.{write_number, by_test as written_by_test, printed, writes}
 use Rattle.sheet_claims.specs.LentBuffers.{Room, ReadRoom, WriteRoom, ReadRoomLast, WriteRoomLast}
 
 -- ---- exactly where a result does not fit

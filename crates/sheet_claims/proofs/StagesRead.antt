@@ -3,15 +3,13 @@ use Prim.Native.Nat.{ℕ, suc}
 use mathlib.Core.Bool.{false}
 use mathlib.Core.List.{List, [], ◌∷◌, ◌++◌, append-nil}
 use mathlib.Core.Path.{◌≡◌, refl, ap}
-use native.Mathlib.Omega.{arith}
 use lib.ListN.{length}
 use lib.Seq.{take-append_seam, drop-append_seam}
 use borrow.Author.Tests.{le-leb}
-use Rattle.texts.specs.Digits.{Below}
-use Rattle.sheet.specs.Lines.{field_count, line, is_line}
-use Rattle.sheet.specs.Sheets.{Page, Saved, Sheeted, Ascending, WholePages, pages_words, page_lines, plain_lines, entries_of, all_plain}
+use Rattle.sheet.specs.Lines.{line, is_line}
+use Rattle.sheet.specs.Sheets.{Page, Saved, Sheeted, Ascending, WholePages, pages_words, page_lines, entries_of, all_plain}
 use Rattle.order.specs.Order.{page_number}
-use Rattle.sheet.specs.Reading.{next, is_word, page_count, numbers, plain_count, stages}
+use Rattle.sheet.specs.Reading.{next, page_count, numbers, stages}
 use Rattle.sheet.specs.declared.line.Line.{Line}
 use Rattle.sheet.specs.declared.line.Line.TheVariants.{Page as PageLine, Word, Do}
 use Rattle.sheet.proofs.LineLaws.{is_line_line, values_line}
