@@ -39,7 +39,7 @@ text_length-long-requires c =
 pub returns-then-text-long : goal.returns-then-text-long
 returns-then-text-long c =
     let lent = run c.args.state.now c.args.pages.now c.args.bytes.now c.args.words.now in
-    too_long _ _ _ (long lent (passes lent c.requires) _ _ c.nonzero.ensures c.text_length-long.ensures) c.if-text-long.true
+    too_long _ _ _ (long lent (passes lent c.requires) _ _ c.nonzero.ensures c.text_length-long.ensures) (omega arith)
 
 pub lay-requires : goal.lay-requires
 lay-requires c =
@@ -55,4 +55,4 @@ lay-requires c =
 pub returns : goal.returns
 returns c =
     let lent = run c.args.state.now c.args.pages.now c.args.bytes.now c.args.words.now in
-    done _ _ _ (long lent (passes lent c.requires) _ _ c.nonzero.ensures c.text_length-long.ensures) _ c.if-text-long.false c.lay.ensures
+    done _ _ _ (long lent (passes lent c.requires) _ _ c.nonzero.ensures c.text_length-long.ensures) _ (omega arith) c.lay.ensures
