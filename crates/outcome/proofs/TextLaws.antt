@@ -10,7 +10,6 @@ use Rattle.numbers.specs.Buffers.{laid}
 use Rattle.numbers.proofs.Laws.{laid_front, laid_whole, length_laid}
 use Rattle.pages.specs.Pages.{page_limit, page_bytes}
 use Rattle.answers.specs.Answer.{refusal_number, sheet_number}
-use Rattle.processor.specs.State.{in_range}
 use Rattle.processor.specs.Layout.{fields, state_of, words_of}
 use Rattle.state_words.specs.Formed.{formed, good_state}
 use Rattle.state_words.specs.declared.Formed.TheVariants.{NoState}

@@ -2,12 +2,11 @@
 use mathlib.Core.Path.{◌≡◌, refl, sym, ◌∙◌, subst}
 use lib.Seq.{length-take-le}
 use borrow.Author.Tests.{lt-ltb}
-use Rattle.processor.specs.Layout.{state_of}
 use Rattle.state_words.proofs.Laws.{formed_whole}
 use Rattle.sheet.specs.Lent.{Buffers}
 use Rattle.sheet_read.specs.declared.buffers.Reading.{Reading}
 use Rattle.outcome.specs.Outcome.{outcome}
-use Rattle.outcome.proofs.TextLaws.{Ready, Told, told, no_state_never}
+use Rattle.outcome.proofs.TextLaws.{Told, told, no_state_never}
 use Rattle.outcome.proofs.outcome.Goals.{After-read}
 use Rattle.outcome.proofs.outcome.Goals as goal
 
