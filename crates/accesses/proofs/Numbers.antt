@@ -1,9 +1,6 @@
 -- The loop that builds a number from its last byte down. Assumes nothing.
-use Prim.Native.Nat.{ℕ, suc, ◌+◌, ◌-◌, ◌*◌, ◌^◌, ◌<◌, ◌≤◌}
-use mathlib.Core.Path.{◌≡◌, sym, ◌∙◌, ap, ap₂}
-use mathlib.Core.List.{List}
-use native.Mathlib.Nat.{pow-suc, pow-le-pow_right}
-use native.Mathlib.Omega.{arith}
+use Rattle.std.proofs.Common.{◌≡◌, ℕ, suc, ◌+◌, ◌-◌, ◌*◌, ◌^◌, ◌<◌, ◌≤◌, sym, ◌∙◌, ap, ap₂, List, pow-suc, arith}
+use Rattle.std.proofs.Math.Nat.{pow-le-pow_right}
 use Rattle.addresses.specs.Address.{wrapped, plus}
 use Rattle.pages.specs.Pages.{Lookup}
 use Rattle.accesses.specs.Access.{byte_in, number}

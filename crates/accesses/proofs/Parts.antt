@@ -1,14 +1,9 @@
 -- A byte set in the page that is lent on is that byte set in the whole. Assumes nothing.
-use Prim.Native.Nat.{ℕ, ◌+◌, ◌-◌, ◌%◌, ◌<◌, ◌≤◌}
-use mathlib.Core.Path.{◌≡◌, ◌∙◌, ap}
-use mathlib.Core.List.{List}
-use native.Mathlib.Omega.{arith}
-use lib.ListN.{length, set, length-set}
+use Rattle.std.proofs.Common.{◌≡◌, ℕ, ◌+◌, ◌-◌, ◌%◌, ◌<◌, ◌≤◌, ◌∙◌, ap, refl, List, Option, Some, None, length, set, length-set, arith}
 use borrow.Rule.Slice.PartMut.{mid_of, put_mid, mid_len, set_mid_at}
 use Rattle.pages.specs.Pages.{page_bytes}
-use Rattle.accesses.specs.Access.{put_byte}
 use Rattle.pages.specs.declared.pages.Spot.{Spot}
-use Rattle.pages.specs.declared.pages.Spot.TheVariants.{Unlisted, At}
+use Rattle.accesses.specs.Access.{put_byte}
 
 -- the start of the page that a place lies on
 abbrev pub page_start : ℕ → ℕ
@@ -29,6 +24,6 @@ pub put_in : (xs : List ℕ) (place byte : ℕ) → page_start place + page_byte
 put_in xs place byte h =
     set_mid_at (page_start place) (page_length place) (place % page_bytes) xs byte (in_page_lem xs place h) ∙ ap (λ (n : ℕ). set xs n byte) (whole place)
 
-pub length_put : (spot : Spot) (byte : ℕ) (bytes : List ℕ) → length (put_byte spot byte bytes) ≡ length bytes
-length_put Unlisted byte bytes = λ i. length bytes
-length_put (At kind place) byte bytes = length-set bytes place byte
+pub length_put : (spot : Option Spot) (byte : ℕ) (bytes : List ℕ) → length (put_byte spot byte bytes) ≡ length bytes
+length_put None byte bytes = refl
+length_put (Some found) byte bytes = length-set bytes found.place byte

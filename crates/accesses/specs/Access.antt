@@ -1,19 +1,15 @@
 -- An access: whether it can be done, the number that it loads, and the bytes that it leaves (docs/RULES.md, "Reaching a byte"). Assumes nothing.
-use Rattle.std.specs.Prelude.{ℕ, zero, suc, ◌+◌, ◌*◌, ◌/◌, ◌%◌, Bool, true, false, cond, List, length, get_or, set, eqb}
+use Rattle.std.specs.Prelude.{ℕ, zero, suc, ◌+◌, ◌*◌, ◌/◌, ◌%◌, cond, List, length, get_or, set, eqb, Option, Some, None, Result, Ok, Err}
 use Rattle.numbers.specs.Numbers.{byte_count}
 use Rattle.addresses.specs.Address.{wrapped, plus, canonical}
 use Rattle.addresses.specs.declared.address.Width.{Width}
 use Rattle.pages.specs.Pages.{Lookup, user_shadow, supervisor_shadow, ordinary, spot}
 use Rattle.pages.specs.declared.pages.Spot.{Spot}
-use Rattle.pages.specs.declared.pages.Spot.TheVariants.{Unlisted, At}
 use Rattle.accesses.specs.declared.access.Kind.{Kind}
 use Rattle.accesses.specs.declared.access.Kind.TheVariants.{UserShadow, SupervisorShadow, Ordinary}
 use Rattle.accesses.specs.declared.access.Access.{Access}
+use Rattle.accesses.specs.declared.reach.Failure.{Failure}
 use Rattle.accesses.specs.declared.reach.Failure.TheVariants.{NotCanonical, NotListed, WrongKind}
-use Rattle.accesses.specs.declared.reach.Reach.{Reach}
-use Rattle.accesses.specs.declared.reach.Reach.TheVariants.{Ready, Blocked}
-use Rattle.accesses.specs.declared.load.Loaded.{Loaded}
-use Rattle.accesses.specs.declared.load.Loaded.TheVariants.{Value, Blocked as Unloaded}
 
 -- ---- kinds
 
@@ -30,29 +26,25 @@ lookup_of pages bytes = spot pages (length bytes)
 
 -- ---- trying an access
 
-abbrev pub is_ready : Reach → Bool
-is_ready Ready = true
-is_ready (Blocked failure) = false
-
 -- the first of two findings, if that is a failure, else the second
-abbrev pub and_then : Reach → Reach → Reach
-and_then Ready next = next
-and_then (Blocked failure) next = Blocked failure
+abbrev pub and_then : Result (Unit {0}) Failure → Result (Unit {0}) Failure → Result (Unit {0}) Failure
+and_then (Ok x) next = next
+and_then (Err failure) next = Err failure
 
 -- n bytes, counting up from an address: the first whose test fails decides
-unfoldable pub scan : (ℕ → Reach) → Width → ℕ → ℕ → Reach
-scan test w address zero = Ready
+unfoldable pub scan : (ℕ → Result (Unit {0}) Failure) → Width → ℕ → ℕ → Result (Unit {0}) Failure
+scan test w address zero = Ok tt
 scan test w address (suc n) = and_then (test address) (scan test w (plus w address 1) n)
 
-abbrev pub canonical_byte : ℕ → Reach
-canonical_byte address = cond (canonical address) Ready (Blocked NotCanonical)
+abbrev pub canonical_byte : ℕ → Result (Unit {0}) Failure
+canonical_byte address = cond (canonical address) (Ok tt) (Err NotCanonical)
 
 -- whether a byte that leads here is on a page of the kind
-abbrev pub on_kind : ℕ → ℕ → Spot → Reach
-on_kind kind address Unlisted = Blocked (NotListed address)
-on_kind kind address (At found place) = cond (eqb found kind) Ready (Blocked (WrongKind address))
+abbrev pub on_kind : ℕ → ℕ → Option Spot → Result (Unit {0}) Failure
+on_kind kind address None = Err (NotListed address)
+on_kind kind address (Some found) = cond (eqb found.kind kind) (Ok tt) (Err (WrongKind address))
 
-abbrev pub listed_byte : Lookup → ℕ → ℕ → Reach
+abbrev pub listed_byte : Lookup → ℕ → ℕ → Result (Unit {0}) Failure
 listed_byte look kind address = on_kind kind address (look address)
 
 -- the address of an access's first byte
@@ -60,23 +52,23 @@ abbrev pub start : Access → ℕ
 start a = wrapped a.width a.first
 
 -- where the access asks for it, every byte's address must be canonical
-unfoldable pub canonical_bytes : Access → Reach
-canonical_bytes a = cond a.canonical (scan canonical_byte a.width (start a) (byte_count a.size)) Ready
+unfoldable pub canonical_bytes : Access → Result (Unit {0}) Failure
+canonical_bytes a = cond a.canonical (scan canonical_byte a.width (start a) (byte_count a.size)) (Ok tt)
 
 -- every byte must lie on a listed page of the access's kind
-unfoldable pub listed_bytes : Lookup → Access → Reach
+unfoldable pub listed_bytes : Lookup → Access → Result (Unit {0}) Failure
 listed_bytes look a = scan (listed_byte look (kind_number a.kind)) a.width (start a) (byte_count a.size)
 
 -- What trying an access finds: first whether its addresses are canonical, then the pages. The fields `store` and `user` play no part.
-unfoldable pub probe : Lookup → Access → Reach
+unfoldable pub probe : Lookup → Access → Result (Unit {0}) Failure
 probe look a = and_then (canonical_bytes a) (listed_bytes look a)
 
 -- ---- loading
 
 -- the byte at a place. 0 stands for no byte; every byte of an access that is ready is there
-abbrev pub byte_in : List ℕ → Spot → ℕ
-byte_in bytes Unlisted = 0
-byte_in bytes (At kind place) = get_or bytes place 0
+abbrev pub byte_in : List ℕ → Option Spot → ℕ
+byte_in bytes None = 0
+byte_in bytes (Some found) = get_or bytes found.place 0
 
 -- the number that n bytes hold, counting up from an address, low byte first
 unfoldable pub number : Lookup → List ℕ → Width → ℕ → ℕ → ℕ
@@ -87,19 +79,19 @@ number look bytes w address (suc n) = byte_in bytes (look address) + 256 * numbe
 unfoldable pub value : Lookup → List ℕ → Access → ℕ
 value look bytes a = number look bytes a.width (start a) (byte_count a.size)
 
-abbrev pub loaded_if : Reach → ℕ → Loaded
-loaded_if Ready v = Value v
-loaded_if (Blocked failure) v = Unloaded failure
+abbrev pub loaded_if : Result (Unit {0}) Failure → ℕ → Result ℕ Failure
+loaded_if (Ok x) v = Ok v
+loaded_if (Err failure) v = Err failure
 
 -- what a load gives
-unfoldable pub load : Lookup → List ℕ → Access → Loaded
+unfoldable pub load : Lookup → List ℕ → Access → Result ℕ Failure
 load look bytes a = loaded_if (probe look a) (value look bytes a)
 
 -- ---- storing
 
-abbrev pub put_byte : Spot → ℕ → List ℕ → List ℕ
-put_byte Unlisted byte bytes = bytes
-put_byte (At kind place) byte bytes = set bytes place byte
+abbrev pub put_byte : Option Spot → ℕ → List ℕ → List ℕ
+put_byte None byte bytes = bytes
+put_byte (Some found) byte bytes = set bytes found.place byte
 
 -- the low n bytes of a value, counting up from an address, low byte first
 unfoldable pub write : Lookup → Width → ℕ → ℕ → ℕ → List ℕ → List ℕ
@@ -110,9 +102,9 @@ write look w address (suc n) v bytes = write look w (plus w address 1) n (v / 25
 unfoldable pub written : Lookup → Access → ℕ → List ℕ → List ℕ
 written look a v bytes = write look a.width (start a) (byte_count a.size) v bytes
 
-abbrev pub stored_if : Reach → List ℕ → List ℕ → List ℕ
-stored_if Ready after before = after
-stored_if (Blocked failure) after before = before
+abbrev pub stored_if : Result (Unit {0}) Failure → List ℕ → List ℕ → List ℕ
+stored_if (Ok x) after before = after
+stored_if (Err failure) after before = before
 
 -- what a store leaves: all of the access, or nothing of it
 unfoldable pub store : Lookup → Access → ℕ → List ℕ → List ℕ

@@ -3,7 +3,7 @@ ghost use Rattle.std.specs.Prelude.{◌≡◌};
 ghost use Rattle.pages.specs.Pages.{spot};
 ghost use Rattle.accesses.specs.Access.{kind_number, canonical_bytes, probe as probe_of};
 
-use crate::reach::{Asked, Reach, test_bytes};
+use crate::reach::{Failure, canonical_byte, listed_byte, scan};
 use addresses::Width;
 use numbers::Size;
 
@@ -32,11 +32,12 @@ pub struct Access {
     pub canonical: bool,
 }
 
-impl Kind {
-    pub fn number(self) -> u64
-        ensures { result ≡ kind_number self }
-    {
-        match self {
+// The number that an entry has for the kind.
+impl From<Kind> for u64 {
+    ghost from_gives = { λ kind n. n ≡ kind_number kind };
+
+    fn from(kind: Kind) -> u64 {
+        match kind {
             Kind::UserShadow => 1,
             Kind::SupervisorShadow => 2,
             Kind::Ordinary => 3,
@@ -46,30 +47,29 @@ impl Kind {
 
 impl Access {
     // Canonical addresses are a matter of the access alone, so no page is handed on.
-    fn canonical_bytes(self) -> Reach
+    #[tactic(auto, unfolding(crate::specs::Access::canonical_bytes))]
+    fn canonical_bytes(self) -> Result<(), Failure>
         ensures { result ≡ canonical_bytes self }
     {
         if self.canonical {
-            let width = self.width;
-            let size = self.size;
-            test_bytes(&[], 0, Asked::Canonical, width, self.first, size.bytes())
+            scan(canonical_byte, self.width, self.first, self.size.bytes())
         } else {
-            Reach::Ready
+            Ok(())
         }
     }
 
     // Tries every byte by itself. `lent` is how many bytes are lent; none is looked at.
-    pub fn try_each(self, pages: &[u64], lent: usize) -> Reach
+    #[tactic(auto, unfolding(crate::specs::Access::probe, crate::specs::Access::listed_bytes))]
+    pub fn try_each(self, pages: &[u64], lent: usize) -> Result<(), Failure>
         ensures { result ≡ probe_of (spot pages.now lent) self }
     {
-        let shape = self.canonical_bytes();
-        if !shape.is_ready() {
-            return shape;
-        }
-        let kind = self.kind;
-        let width = self.width;
-        let size = self.size;
-        let asked = Asked::OnKind(kind.number());
-        test_bytes(pages, lent, asked, width, self.first, size.bytes())
+        self.canonical_bytes()?;
+        let kind = u64::from(self.kind);
+        scan(
+            move |address| listed_byte(pages, lent, kind, address),
+            self.width,
+            self.first,
+            self.size.bytes(),
+        )
     }
 }

@@ -10,5 +10,4 @@ mod reach;
 mod store;
 
 pub use access::{Access, Kind};
-pub use load::Loaded;
-pub use reach::{Failure, Reach};
+pub use reach::Failure;

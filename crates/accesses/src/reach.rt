@@ -1,12 +1,12 @@
 // Whether bytes can be reached, one by one.
-ghost use Rattle.std.specs.Prelude.{◌≡◌};
+ghost use Rattle.std.specs.Prelude.{◌≡◌, ℕ, Result};
 ghost use Rattle.addresses.specs.Address.{wrapped};
 ghost use Rattle.pages.specs.Pages.{spot};
-ghost use Rattle.accesses.specs.Access.{is_ready, scan};
-ghost use Rattle.accesses.specs.Search.{byte_test};
+ghost use Rattle.accesses.specs.Access.{scan as scan_of, canonical_byte, listed_byte};
+ghost use Rattle.accesses.specs.declared.reach.Failure.{Failure};
 
 use addresses::{Width, canonical};
-use pages::{Spot, find};
+use pages::find;
 
 // Why an access cannot be done.
 #[derive(Clone, Copy)]
@@ -19,75 +19,47 @@ pub enum Failure {
     WrongKind(u64),
 }
 
-// What trying an access finds.
-#[derive(Clone, Copy)]
-pub enum Reach {
-    Ready,
-    Blocked(Failure),
-}
-
-// What is asked of a byte.
-#[derive(Clone, Copy)]
-pub(crate) enum Asked {
-    Canonical,
-    OnKind(u64),
-}
-
-impl Reach {
-    pub fn is_ready(self) -> bool
-        ensures { result ≡ is_ready self }
-    {
-        match self {
-            Reach::Ready => true,
-            Reach::Blocked(_) => false,
-        }
-    }
-}
-
-fn test_byte(pages: &[u64], lent: usize, asked: Asked, address: u64) -> Reach
-    ensures { result ≡ byte_test (spot pages.now lent) asked address }
+pub(crate) fn canonical_byte(address: u64) -> Result<(), Failure>
+    ensures { result ≡ canonical_byte address }
 {
-    match asked {
-        Asked::Canonical => {
-            if canonical(address) {
-                Reach::Ready
-            } else {
-                Reach::Blocked(Failure::NotCanonical)
-            }
-        }
-        Asked::OnKind(kind) => match find(pages, lent, address) {
-            Spot::Unlisted => Reach::Blocked(Failure::NotListed(address)),
-            Spot::At(found, _) => {
-                if found == kind {
-                    Reach::Ready
-                } else {
-                    Reach::Blocked(Failure::WrongKind(address))
-                }
-            }
-        },
+    if canonical(address) {
+        Ok(())
+    } else {
+        Err(Failure::NotCanonical)
     }
 }
 
-// Asks the same of n bytes, counting up from the first; the first that fails decides.
-pub(crate) fn test_bytes(
+// Whether a byte is on a listed page of the kind, which is the number that entries have for it.
+pub(crate) fn listed_byte(
     pages: &[u64],
     lent: usize,
-    asked: Asked,
+    kind: u64,
+    address: u64,
+) -> Result<(), Failure>
+    ensures { result ≡ listed_byte (spot pages.now lent) kind address }
+{
+    match find(pages, lent, address) {
+        None => Err(Failure::NotListed(address)),
+        Some(spot) if spot.kind == kind => Ok(()),
+        Some(_) => Err(Failure::WrongKind(address)),
+    }
+}
+
+// Tests n bytes, counting up from the first; the first that fails decides.
+#[tactic(auto, using(crate::proofs::Steps::scan_first, crate::proofs::Steps::scan_on, crate::proofs::Steps::scan_end))]
+pub(crate) fn scan<F: Fn(u64) -> Result<(), Failure>>(
+    test: F,
     width: Width,
     first: u64,
     n: u64,
-) -> Reach
-    ensures { result ≡ scan (byte_test (spot pages.now lent) asked) width (wrapped width first) n }
+) -> Result<(), Failure>
+    ghost want: { ℕ → Result (Unit {0}) Failure }
+    requires callable { F.IsAlwaysCallable test }
+    requires tests { (address : ℕ) (r : _) → F.post test address r → r ≡ want address }
+    ensures { result ≡ scan_of want width (wrapped width first) n }
 {
-    let mut address = width.wrap(first);
-    let mut left = n;
-    while 0 < left {
-        let one = test_byte(pages, lent, asked, address);
-        if !one.is_ready() {
-            return one;
-        }
-        address = width.plus(address, 1);
-        left -= 1;
+    for k in 0..n {
+        test(width.plus(first, k))?;
     }
-    Reach::Ready
+    Ok(())
 }

@@ -11,6 +11,7 @@ pub enum Width {
 
 impl Width {
     // The address that a number stands for at this width.
+    #[tactic(auto, unfolding(crate::specs::Address::wrapped))]
     pub fn wrap(self, n: u64) -> u64
         ensures { result ≡ wrapped self n }
     {
@@ -21,24 +22,27 @@ impl Width {
     }
 
     // a + b at this width.
+    #[tactic(auto, using(crate::proofs::Sums::plus_wraps))]
     pub fn plus(self, a: u64, b: u64) -> u64
         ensures { result ≡ plus_of self a b }
     {
-        self.wrap(std::num::wrapping_add_u64(a, b))
+        self.wrap(a.wrapping_add(b))
     }
 
     // a - b at this width.
+    #[tactic(auto, using(crate::proofs::Sums::minus_wraps))]
     pub fn minus(self, a: u64, b: u64) -> u64
         ensures { result ≡ minus_of self a b }
     {
-        self.wrap(std::num::wrapping_sub_u64(a, b))
+        self.wrap(a.wrapping_sub(b))
     }
 }
 
 // Whether bits 63 to 47 of an address are all equal.
+#[tactic(auto, unfolding(crate::specs::Address::canonical))]
 pub fn canonical(address: u64) -> bool
     ensures { result ≡ canonical_of address }
 {
     let top = address / 0x8000_0000_0000;
-    if top == 0 { true } else { top == 0x1_ffff }
+    top == 0 || top == 0x1_ffff
 }

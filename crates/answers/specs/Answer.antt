@@ -1,5 +1,7 @@
 -- The answers and their numbers (docs/RULES.md, "Refusals and answers"). Assumes nothing.
 use Rattle.std.specs.Prelude.{ℕ}
+use Rattle.pages.specs.declared.pages.ListError.{ListError}
+use Rattle.pages.specs.declared.pages.ListError.TheVariants.{BadLength, BadKind, BadAddress, Repeated}
 use Rattle.answers.specs.declared.answer.Vector.{Vector}
 use Rattle.answers.specs.declared.answer.Vector.TheVariants.{InvalidOpcode, Stack, Protection, Page, Control}
 use Rattle.answers.specs.declared.answer.Refusal.{Refusal}
@@ -24,6 +26,13 @@ refusal_number Repeat = 4
 refusal_number State = 5
 refusal_number Instruction = 6
 refusal_number Words = 7
+
+-- the refusal of a page list, by what is wrong with it
+abbrev pub refusal_for : ListError → Refusal
+refusal_for BadLength = Length
+refusal_for BadKind = Kind
+refusal_for BadAddress = Address
+refusal_for Repeated = Repeat
 
 -- the refusals of the calls: a result is longer than the buffer lent for it; a text is no sheet
 abbrev pub room_number : ℕ

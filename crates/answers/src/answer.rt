@@ -1,20 +1,22 @@
 // The answer to an operation or a run, and the numbers that it stands for.
 ghost use Rattle.std.specs.Prelude.{◌≡◌};
-ghost use Rattle.answers.specs.Answer.{vector_number, refusal_number, report_of};
+ghost use Rattle.answers.specs.Answer.{vector_number, refusal_number, refusal_for, report_of};
 
-// The exceptions that can be raised.
+use memory::ListError;
+
+// The exceptions that can be raised, each with its number.
 #[derive(Clone, Copy)]
 pub enum Vector {
     // #UD, invalid opcode.
-    InvalidOpcode,
+    InvalidOpcode = 6,
     // #SS, stack fault.
-    Stack,
+    Stack = 12,
     // #GP, general protection.
-    Protection,
+    Protection = 13,
     // #PF, page fault.
-    Page,
+    Page = 14,
     // #CP, control protection.
-    Control,
+    Control = 21,
 }
 
 // A fault: its vector, its error code, and for a page fault the address of the byte.
@@ -25,28 +27,29 @@ pub struct Fault {
     pub address: u64,
 }
 
-// Why an input or an instruction is refused.
+// Why an input or an instruction is refused, with the number of each refusal.
 #[derive(Clone, Copy)]
 pub enum Refusal {
     // The page list: its length, a kind, an address, two equal addresses.
-    Length,
-    Kind,
-    Address,
-    Repeat,
+    Length = 1,
+    Kind = 2,
+    Address = 3,
+    Repeat = 4,
     // A field of the state.
-    State,
+    State = 5,
     // An instruction's form.
-    Instruction,
+    Instruction = 6,
     // The number of words.
-    Words,
+    Words = 7,
 }
 
-// The numbers of refusals that belong to no run: a result is longer than the buffer lent for it; a text is no sheet.
+// The numbers of refusals that belong to no run: a result is longer than the buffer lent for it; a text is no sheet. They are numbers
+// and no `Refusal`, since no run answers with them, and the C interface hands them out as numbers.
 pub const NO_ROOM: u64 = 8;
 
 pub const NO_SHEET: u64 = 9;
 
-// What an operation or a run answers.
+// What an operation or a run answers: one of three, so neither an Option nor a Result.
 #[derive(Clone, Copy)]
 pub enum Answer {
     Completed,
@@ -63,62 +66,60 @@ pub struct Report {
     pub address: u64,
 }
 
-impl Vector {
-    pub fn number(self) -> u64
-        ensures { result ≡ vector_number self }
-    {
-        match self {
-            Vector::InvalidOpcode => 6,
-            Vector::Stack => 12,
-            Vector::Protection => 13,
-            Vector::Page => 14,
-            Vector::Control => 21,
+impl From<Vector> for u64 {
+    ghost from_gives = { λ v n. n ≡ vector_number v };
+
+    fn from(vector: Vector) -> u64 {
+        vector as u64
+    }
+}
+
+impl From<Refusal> for u64 {
+    ghost from_gives = { λ r n. n ≡ refusal_number r };
+
+    fn from(refusal: Refusal) -> u64 {
+        refusal as u64
+    }
+}
+
+// A page list that is wrong is refused.
+impl From<ListError> for Refusal {
+    ghost from_gives = { λ e r. r ≡ refusal_for e };
+
+    fn from(error: ListError) -> Refusal {
+        match error {
+            ListError::BadLength => Refusal::Length,
+            ListError::BadKind => Refusal::Kind,
+            ListError::BadAddress => Refusal::Address,
+            ListError::Repeated => Refusal::Repeat,
         }
     }
 }
 
-impl Refusal {
-    pub fn number(self) -> u64
-        ensures { result ≡ refusal_number self }
-    {
-        match self {
-            Refusal::Length => 1,
-            Refusal::Kind => 2,
-            Refusal::Address => 3,
-            Refusal::Repeat => 4,
-            Refusal::State => 5,
-            Refusal::Instruction => 6,
-            Refusal::Words => 7,
-        }
-    }
-}
+// Nothing to report.
+const CLEAR: Report = Report {
+    refusal: 0,
+    vector: 0,
+    code: 0,
+    address: 0,
+};
 
-impl Answer {
-    pub fn report(self) -> Report
-        ensures { result ≡ report_of self }
-    {
-        match self {
-            Answer::Completed => Report {
-                refusal: 0,
-                vector: 0,
-                code: 0,
-                address: 0,
-            },
+impl From<Answer> for Report {
+    ghost from_gives = { λ a r. r ≡ report_of a };
+
+    fn from(answer: Answer) -> Report {
+        match answer {
+            Answer::Completed => CLEAR,
             Answer::Refused(refusal) => Report {
-                refusal: refusal.number(),
-                vector: 0,
-                code: 0,
-                address: 0,
+                refusal: refusal.into(),
+                ..CLEAR
             },
-            Answer::Faulted(fault) => {
-                let vector = fault.vector;
-                Report {
-                    refusal: 0,
-                    vector: vector.number(),
-                    code: fault.code,
-                    address: fault.address,
-                }
-            }
+            Answer::Faulted(fault) => Report {
+                vector: fault.vector.into(),
+                code: fault.code,
+                address: fault.address,
+                ..CLEAR
+            },
         }
     }
 }

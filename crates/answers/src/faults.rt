@@ -1,10 +1,10 @@
 // Faults, by their parts.
 ghost use Rattle.std.specs.Prelude.{◌≡◌};
 ghost use Rattle.answers.specs.Answer.{fault_of, plain_fault, control_fault, page_fault};
-ghost use Rattle.answers.specs.Blame.{blame as blame_of};
+ghost use Rattle.answers.specs.Blame.{blame};
 
 use crate::answer::{Fault, Vector};
-use memory::{Access, Failure, Kind};
+use memory::{Blocked, Failure, Kind};
 
 // A fault, by its parts.
 fn raised(vector: Vector, code: u64, address: u64) -> Fault
@@ -38,19 +38,16 @@ fn page_fault(address: u64) -> Fault
 }
 
 // The fault of an access that cannot be done.
-pub fn blame(access: Access, failure: Failure) -> Fault
-    ensures { result ≡ blame_of access failure }
-{
-    match failure {
-        Failure::NotListed(address) => page_fault(address),
-        Failure::WrongKind(address) => page_fault(address),
-        Failure::NotCanonical => {
-            let kind = access.kind;
-            match kind {
-                Kind::UserShadow => fault(Vector::Protection),
-                Kind::SupervisorShadow => fault(Vector::Protection),
+impl From<Blocked> for Fault {
+    ghost from_gives = { λ b f. f ≡ blame b.access b.failure };
+
+    fn from(blocked: Blocked) -> Fault {
+        match blocked.failure {
+            Failure::NotListed(address) | Failure::WrongKind(address) => page_fault(address),
+            Failure::NotCanonical => match blocked.access.kind {
+                Kind::UserShadow | Kind::SupervisorShadow => fault(Vector::Protection),
                 Kind::Ordinary => fault(Vector::Stack),
-            }
+            },
         }
     }
 }

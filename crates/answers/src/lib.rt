@@ -5,4 +5,4 @@ mod answer;
 mod faults;
 
 pub use answer::{Answer, Fault, NO_ROOM, NO_SHEET, Refusal, Report, Vector};
-pub use faults::{blame, control_fault, fault};
+pub use faults::{control_fault, fault};

@@ -4,44 +4,44 @@
 ghost use Rattle.std.specs.Prelude.{◌≡◌};
 ghost use Rattle.accesses.specs.Access.{lookup_of};
 ghost use Rattle.processor.specs.Prog.{operate};
-ghost use Rattle.processor.specs.Outcomes.{step_of};
+ghost use Rattle.processor.specs.Outcomes.{ended_by, step_of};
 ghost use Rattle.call.specs.Frame.{frame_of};
 ghost use Rattle.call.specs.Call.{pushes_frame, call};
 
-use processor::{Outcome, State, Vector};
-use stores::{SLOTS, Slot, Stored};
+use processor::{Fault, State, Vector, fault};
+use stores::{Store, store_all};
 use targets::{in_code, pushed, runs_past};
 
-// The push on the shadow stack, if there is one, and SSP after the call.
+// The push on the shadow stack, and SSP after it.
 #[derive(Clone, Copy)]
 struct Frame {
-    slot: Slot,
+    store: Store,
     ssp: u64,
 }
 
 // Whether the call pushes on the shadow stack.
+#[tactic(auto, unfolding(crate::specs::Call::pushes_frame))]
 fn pushes_frame(state: State, framed: bool) -> bool
     ensures { result ≡ pushes_frame state framed }
 {
-    if state.enabled() { framed } else { false }
+    state.enabled() && framed
 }
 
-// What the call does to the shadow stack: SSP after it is moved only where a frame is pushed.
-fn make_frame(state: State, framed: bool, next: u64) -> Frame
+// What the call does to the shadow stack, where it pushes on it.
+#[tactic(auto, unfolding(crate::specs::Frame::frame_of))]
+fn make_frame(state: State, framed: bool, next: u64) -> Option<Frame>
     ensures { result ≡ frame_of state framed next }
 {
     if !pushes_frame(state, framed) {
-        return Frame {
-            slot: Slot::End,
-            ssp: state.ssp,
-        };
+        return None;
     }
     let size = pushed(state);
     let ssp = state.minus(state.ssp, size.bytes());
-    Frame {
-        slot: Slot::Store(state.shadow(ssp, size, true), next),
-        ssp,
-    }
+    let store = Store {
+        access: state.shadow(ssp, size, true),
+        value: next,
+    };
+    Some(Frame { store, ssp })
 }
 
 // The call to a target, of a form that makes a shadow frame or of the one that does not; whoever calls this says which. A relative call
@@ -53,25 +53,36 @@ pub fn execute(
     target: u64,
     framed: bool,
     span: u64,
-) -> Outcome
-    ensures { step_of result bytes.new ≡ operate (lookup_of pages.now bytes.old) (call target framed span state) state bytes.old }
+) -> Result<State, Fault>
+    ensures { step_of (ended_by state result) bytes.new ≡ operate (lookup_of pages.now bytes.old) (call target framed span state) state bytes.old }
 {
     if !in_code(state, target) {
-        return state.fail(processor::fault(Vector::Protection));
+        return Err(fault(Vector::Protection));
     }
     let size = pushed(state);
     let sp = state.minus(state.sp, size.bytes());
     if runs_past(state, sp) {
-        return state.fail(processor::fault(Vector::Stack));
+        return Err(fault(Vector::Stack));
     }
     let next = state.next(span);
-    let frame = make_frame(state, framed, next);
-    let slot = frame.slot;
-    let mut slots = [Slot::End; SLOTS];
-    slots[0] = Slot::Store(state.ordinary(sp, size, true), next);
-    slots[1] = slot;
-    match stores::store_all(slots, pages, bytes) {
-        Stored::NoneStored(access, failure) => state.fail(processor::blame(access, failure)),
-        Stored::AllStored => state.transfer(sp, frame.ssp, target),
-    }
+    let push = Store {
+        access: state.ordinary(sp, size, true),
+        value: next,
+    };
+    let ssp = match make_frame(state, framed, next) {
+        Some(frame) => {
+            store_all(&[push, frame.store], pages, bytes)?;
+            frame.ssp
+        }
+        None => {
+            store_all(&[push], pages, bytes)?;
+            state.ssp
+        }
+    };
+    Ok(State {
+        sp,
+        ssp,
+        ip: target,
+        ..state
+    })
 }

@@ -1,24 +1,18 @@
 -- One program, and one list of instructions, over two memories of which the second extends the first. Unless the first comes to a page
 -- fault, both go alike. Assumes nothing.
-use Prim.Native.Nat.{ℕ, zero, suc, ◌<◌}
-use mathlib.Core.Bool.{Bool, true, false, cond, true≢false}
-use mathlib.Core.List.{List}
-use mathlib.Core.Path.{◌≡◌, refl, sym, ◌∙◌}
-use native.Mathlib.Omega.{arith}
-use lib.ListN.{length}
+use Rattle.std.proofs.Common.{◌≡◌, ℕ, zero, suc, ◌<◌, Bool, true, false, cond, List, length, Ok, Err, Result, sym, refl, ◌∙◌, true≢false, arith}
 use Rattle.accesses.specs.Access.{probe, value, written}
 use Rattle.memory.specs.Extends.{Extends, Places}
 use Rattle.pages.specs.Pages.{Lookup}
 use Rattle.accesses.specs.declared.access.Access.{Access}
 use Rattle.accesses.specs.declared.reach.Failure.TheVariants.{NotCanonical, NotListed, WrongKind}
-use Rattle.accesses.specs.declared.reach.Reach.{Reach}
-use Rattle.accesses.specs.declared.reach.Reach.TheVariants.{Ready, Blocked}
 use Rattle.memory.proofs.Laws.{length_written, ready_in_second, same_value, store_in_both, not_canonical_lem}
 use Rattle.answers.specs.Blame.{blame}
-use Rattle.processor.specs.Prog.{Prog, done, stop, fetch, put, Result, ended, broken, on_reach, interp, Step, settle, operate}
+use Rattle.processor.specs.Prog.{Prog, done, stop, fetch, put, Ending, ended, broken, on_reach, interp, Step, settle, operate}
 use Rattle.answers.specs.declared.answer.Answer.TheVariants.{Faulted}
 use Rattle.answers.specs.declared.answer.Fault.{Fault}
 use Rattle.answers.specs.declared.answer.Refusal.TheVariants.{Instruction as BadForm}
+use Rattle.accesses.specs.declared.reach.Failure.{Failure}
 use Rattle.processor.specs.declared.state.State.{State}
 use Rattle.instructions.specs.Permission.{hidden}
 use Rattle.perform.specs.Exec.{InstructionSet, exec, refused, perform}
@@ -33,7 +27,7 @@ pub record Beside (look₁ look₂ : Lookup) (lent₁ lent₂ bytes₁ bytes₂ 
   pub kept₂ : length bytes₂ ≡ length lent₂
 
 -- how a program ends in both memories: alike, or the first breaks off with a page fault and the second may go on
-data ResultsAlike (look₁ look₂ : Lookup) (lent₁ lent₂ : List ℕ) (A : Type 0) (r₁ r₂ : Result A) : Type 0 where
+data ResultsAlike (look₁ look₂ : Lookup) (lent₁ lent₂ : List ℕ) (A : Type 0) (r₁ r₂ : Ending A) : Type 0 where
   both_end : (x : A) (bytes₁ bytes₂ : List ℕ) → r₁ ≡ ended x bytes₁ → r₂ ≡ ended x bytes₂ → Beside look₁ look₂ lent₁ lent₂ bytes₁ bytes₂ → ResultsAlike look₁ look₂ lent₁ lent₂ A r₁ r₂
   both_break : (fault : Fault) → r₁ ≡ broken fault → r₂ ≡ broken fault → ResultsAlike look₁ look₂ lent₁ lent₂ A r₁ r₂
   page_missing : (fault : Fault) → r₁ ≡ broken fault → is_page_fault (Faulted fault) ≡ true → ResultsAlike look₁ look₂ lent₁ lent₂ A r₁ r₂
@@ -48,19 +42,19 @@ module _ (look₁ look₂ : Lookup) (lent₁ lent₂ : List ℕ) (places₁ : Pl
   -- ---- a program
 
   -- an access, and what comes after it
-  reach : {A : Type 0} (bytes₁ bytes₂ : List ℕ) → Beside look₁ look₂ lent₁ lent₂ bytes₁ bytes₂ → (a : Access) (go₁ go₂ : Result A)
-      → (probe look₁ a ≡ Ready → ResultsAlike look₁ look₂ lent₁ lent₂ A go₁ go₂)
+  reach : {A : Type 0} (bytes₁ bytes₂ : List ℕ) → Beside look₁ look₂ lent₁ lent₂ bytes₁ bytes₂ → (a : Access) (go₁ go₂ : Ending A)
+      → (probe look₁ a ≡ Ok tt → ResultsAlike look₁ look₂ lent₁ lent₂ A go₁ go₂)
       → ResultsAlike look₁ look₂ lent₁ lent₂ A (on_reach a (probe look₁ a) go₁) (on_reach a (probe look₂ a) go₂)
   reach {A} bytes₁ bytes₂ b a go₁ go₂ later = by (probe look₁ a) refl
     where
-      by : (r : Reach) → probe look₁ a ≡ r → ResultsAlike look₁ look₂ lent₁ lent₂ A (on_reach a r go₁) (on_reach a (probe look₂ a) go₂)
-      by Ready e = rw (ready_in_second look₁ bytes₁ look₂ bytes₂ lent₂ b.extends a e) (later e)
-      by (Blocked NotCanonical) e = both_break (blame a NotCanonical) refl (rw (not_canonical_lem look₁ look₂ a e))
-      by (Blocked (NotListed address)) e = page_missing (blame a (NotListed address)) refl refl
-      by (Blocked (WrongKind address)) e = page_missing (blame a (WrongKind address)) refl refl
+      by : (r : Result (Unit {0}) Failure) → probe look₁ a ≡ r → ResultsAlike look₁ look₂ lent₁ lent₂ A (on_reach a r go₁) (on_reach a (probe look₂ a) go₂)
+      by (Ok x) e = rw (ready_in_second look₁ bytes₁ look₂ bytes₂ lent₂ b.extends a e) (later e)
+      by (Err NotCanonical) e = both_break (blame a NotCanonical) refl (rw (not_canonical_lem look₁ look₂ a e))
+      by (Err (NotListed address)) e = page_missing (blame a (NotListed address)) refl refl
+      by (Err (WrongKind address)) e = page_missing (blame a (WrongKind address)) refl refl
 
   -- a store that the first can do
-  pub stored : (bytes₁ bytes₂ : List ℕ) → Beside look₁ look₂ lent₁ lent₂ bytes₁ bytes₂ → (a : Access) (v : ℕ) → probe look₁ a ≡ Ready
+  pub stored : (bytes₁ bytes₂ : List ℕ) → Beside look₁ look₂ lent₁ lent₂ bytes₁ bytes₂ → (a : Access) (v : ℕ) → probe look₁ a ≡ Ok tt
       → Beside look₁ look₂ lent₁ lent₂ (written look₁ a v bytes₁) (written look₂ a v bytes₂)
   stored bytes₁ bytes₂ b a v e = record {
     extends = store_in_both look₁ bytes₁ look₂ bytes₂ lent₂ (rw b.kept₁ places₁) (rw b.kept₂ places₂) b.extends a v e;
@@ -81,7 +75,7 @@ module _ (look₁ look₂ : Lookup) (lent₁ lent₂ : List ℕ) (places₁ : Pl
   -- ---- an instruction
 
   -- what does not complete leaves the memories as they were, so they stay beside one another
-  settled : (s : State) (bytes₁ bytes₂ : List ℕ) → Beside look₁ look₂ lent₁ lent₂ bytes₁ bytes₂ → (r₁ r₂ : Result State) → ResultsAlike look₁ look₂ lent₁ lent₂ State r₁ r₂
+  settled : (s : State) (bytes₁ bytes₂ : List ℕ) → Beside look₁ look₂ lent₁ lent₂ bytes₁ bytes₂ → (r₁ r₂ : Ending State) → ResultsAlike look₁ look₂ lent₁ lent₂ State r₁ r₂
       → is_page_fault (settle s bytes₁ r₁).answer ≡ false → StepsAlike look₁ look₂ lent₁ lent₂ (settle s bytes₁ r₁) (settle s bytes₂ r₂)
   settled s bytes₁ bytes₂ b r₁ r₂ (both_end last stored₁ stored₂ e₁ e₂ after) whole = rw (e₁, e₂) record { answer = refl; state = refl; memory = after }
   settled s bytes₁ bytes₂ b r₁ r₂ (both_break fault e₁ e₂) whole = rw (e₁, e₂) record { answer = refl; state = refl; memory = b }

@@ -1,26 +1,21 @@
 -- A relative CALL with displacement 0 does not use the shadow stack. Assumes nothing.
-use Prim.Native.Nat.{ℕ}
-use mathlib.Core.Bool.{Bool, true, false, not, cond, ◌&&◌, false≢true}
-use mathlib.Core.List.{List, []}
-use mathlib.Core.Path.{◌≡◌, refl, sym, ◌∙◌, ap}
-use native.Mathlib.Omega.{arith}
-use lib.ListN.{length}
+use Rattle.std.proofs.Common.{◌≡◌, ℕ, Bool, true, false, cond, not, ◌&&◌, List, [], length, Ok, Err, Result, sym, refl, ap, ◌∙◌}
+use mathlib.Core.Bool.{false≢true}
 use lib.IntN.{ℤ, pos, negsuc}
 use Rattle.accesses.specs.Access.{probe, written}
 use Rattle.memory.specs.Extends.{cell}
 use Rattle.pages.specs.Pages.{Lookup}
 use Rattle.accesses.specs.declared.access.Access.{Access}
 use Rattle.accesses.specs.declared.access.Kind.TheVariants.{Ordinary}
-use Rattle.accesses.specs.declared.reach.Reach.{Reach}
-use Rattle.accesses.specs.declared.reach.Reach.TheVariants.{Ready, Blocked}
 use Rattle.memory.proofs.Laws.{length_written, same_kind_probe, written_on_kind}
 use Rattle.processor.specs.Accesses.{ordinary}
 use Rattle.answers.specs.Answer.{ss, gp}
 use Rattle.processor.specs.Layout.{with_ip, with_sp, with_ssp}
-use Rattle.processor.specs.Prog.{Prog, done, stop, fetch, put, ◌>>=◌, ◌>>◌, store, unless, Result, ended, broken, on_reach, interp, Step, settle, operate}
+use Rattle.processor.specs.Prog.{Prog, done, stop, fetch, put, ◌>>=◌, ◌>>◌, store, unless, Ending, ended, broken, on_reach, interp, Step, settle, operate}
 use Rattle.processor.specs.State.{enabled, permitted, plus, minus, next}
 use Rattle.answers.specs.declared.answer.Answer.TheVariants.{Faulted}
 use Rattle.answers.specs.declared.answer.Refusal.TheVariants.{Instruction as BadForm}
+use Rattle.accesses.specs.declared.reach.Failure.{Failure}
 use Rattle.processor.specs.declared.state.State.{State}
 use Rattle.processor.proofs.Laws.{continues, breaks}
 use Rattle.targets.specs.Targets.{displacement, moved, relative, displaced, in_code, pushed, runs_past}
@@ -29,13 +24,12 @@ use Rattle.instructions.specs.Instruction.{well_formed}
 use Rattle.instructions.specs.Permission.{hidden, shown}
 use Rattle.perform.specs.Exec.{exec, refused, perform}
 use Rattle.perform.specs.Codes.{target}
-use Rattle.perform.proofs.ExecLaws.{built_whole}
 use Rattle.replay.specs.Run.{Input, built}
 use Rattle.instructions.specs.declared.instruction.Instruction.{Instruction}
 use Rattle.instructions.specs.declared.operation.Target.TheVariants.{Relative}
 use Rattle.claims.specs.CallOfNext.{CallsNext, SameListed, SameOrdinary, SameCallOfNext, CallOfNextUntouched}
 use Rattle.claims.proofs.CallWalk.{below_sp, Pushed, push, frame}
-use Rattle.claims.proofs.InstructionWalk.{its_rule, shown_rule, exec_walk, keeps_bytes}
+use Rattle.claims.proofs.InstructionWalk.{built_whole, its_rule, shown_rule, exec_walk, keeps_bytes}
 use Rattle.claims.proofs.Walks.{Rule, Walks, Weaker, weaker_walks}
 
 -- ---- what it loads and stores, by its walk
@@ -74,17 +68,17 @@ module _ (look : Lookup) (i : Instruction) (s : State) (bytes : List ℕ) (calls
 -- ---- such a program over two memories
 
 -- a result without its bytes
-abbrev bare : {A : Type 0} → Result A → Result A
+abbrev bare : {A : Type 0} → Ending A → Ending A
 bare (ended x left) = ended x []
 bare (broken fault) = broken fault
 
 module _ (look₁ look₂ : Lookup) (listed : SameListed look₁ look₂) (same : SameOrdinary look₁ look₂) where
-  reach_alike : (a : Access) → a.kind ≡ Ordinary → (go₁ go₂ : Result State) → bare go₁ ≡ bare go₂ → bare (on_reach a (probe look₁ a) go₁) ≡ bare (on_reach a (probe look₂ a) go₂)
+  reach_alike : (a : Access) → a.kind ≡ Ordinary → (go₁ go₂ : Ending State) → bare go₁ ≡ bare go₂ → bare (on_reach a (probe look₁ a) go₁) ≡ bare (on_reach a (probe look₂ a) go₂)
   reach_alike a kind go₁ go₂ later = rw (← same_kind_probe look₁ look₂ a listed (rw kind same)) (by (probe look₁ a))
     where
-      by : (r : Reach) → bare (on_reach a r go₁) ≡ bare (on_reach a r go₂)
-      by Ready = later
-      by (Blocked failure) = refl
+      by : (r : Result (Unit {0}) Failure) → bare (on_reach a r go₁) ≡ bare (on_reach a r go₂)
+      by (Ok x) = later
+      by (Err failure) = refl
 
   program_alike : (p : Prog State) (bytes₁ bytes₂ : List ℕ) → Walks look₁ ordinary_only p bytes₁ → bare (interp look₁ p bytes₁) ≡ bare (interp look₂ p bytes₂)
   unfolding Walks interp
@@ -155,7 +149,7 @@ other_ssp given i s ssp calls =
 -- ---- the answer and the registers
 
 -- how a program with another SSP at its end ends
-moved_end : ℕ → Result State → Result State
+moved_end : ℕ → Ending State → Ending State
 moved_end ssp (ended t left) = ended (with_ssp t ssp) left
 moved_end ssp (broken fault) = broken fault
 
@@ -163,7 +157,7 @@ at_ssp_lem : (look : Lookup) (p : Prog State) (bytes : List ℕ) (ssp : ℕ) →
 unfolding interp moved_end
 at_ssp_lem look p bytes ssp = go (interp look p bytes) refl
   where
-    go : (r : Result State) → interp look p bytes ≡ r → interp look (at_ssp ssp p) bytes ≡ moved_end ssp r
+    go : (r : Ending State) → interp look p bytes ≡ r → interp look (at_ssp ssp p) bytes ≡ moved_end ssp r
     go (ended t left) e = continues look (λ t. done (with_ssp t ssp)) p bytes t left e
     go (broken fault) e = breaks look (λ t. done (with_ssp t ssp)) p bytes fault e
 
@@ -171,11 +165,11 @@ at_ssp_lem look p bytes ssp = go (interp look p bytes) refl
 abbrev Alike : ℕ → Step → Step → Type 0
 Alike ssp r₁ r₂ = (r₂.answer ≡ r₁.answer) × (r₂.state ≡ with_ssp r₁.state ssp)
 
-settled_alike : (s : State) (bytes₁ bytes₂ : List ℕ) (ssp : ℕ) (r₁ r₂ : Result State) → bare r₁ ≡ bare r₂ → Alike ssp (settle s bytes₁ r₁) (settle (with_ssp s ssp) bytes₂ (moved_end ssp r₂))
+settled_alike : (s : State) (bytes₁ bytes₂ : List ℕ) (ssp : ℕ) (r₁ r₂ : Ending State) → bare r₁ ≡ bare r₂ → Alike ssp (settle s bytes₁ r₁) (settle (with_ssp s ssp) bytes₂ (moved_end ssp r₂))
 unfolding moved_end
 settled_alike s bytes₁ bytes₂ ssp (ended t left) (ended u other) e = let same : u ≡ t = cc in (refl, ap (λ (last : State). with_ssp last ssp) same)
-settled_alike s bytes₁ bytes₂ ssp (ended t left) (broken fault) e = let z : ◌≡◌ {A = ℕ} 0 1 = cc in absurd (omega arith)
-settled_alike s bytes₁ bytes₂ ssp (broken fault) (ended t left) e = let z : ◌≡◌ {A = ℕ} 0 1 = cc in absurd (omega arith)
+settled_alike s bytes₁ bytes₂ ssp (ended t left) (broken fault) e = absurd cc
+settled_alike s bytes₁ bytes₂ ssp (broken fault) (ended t left) e = absurd cc
 settled_alike s bytes₁ bytes₂ ssp (broken fault) (broken other) e = let same : other ≡ fault = cc in (ap Faulted same, refl)
 
 pub same_call_of_next : SameCallOfNext
@@ -208,7 +202,7 @@ call_of_next_untouched given look i s bytes places calls address off = (keeps_by
     Kept : List ℕ → Type 0
     Kept left = (length left ≡ length bytes) × (cell look left address ≡ cell look bytes address)
 
-    kept : (a : Access) (v : ℕ) (left : List ℕ) → (its_rule look i s bytes).stores a v → probe look a ≡ Ready → Kept left → Kept (written look a v left)
+    kept : (a : Access) (v : ℕ) (left : List ℕ) → (its_rule look i s bytes).stores a v → probe look a ≡ Ok tt → Kept left → Kept (written look a v left)
     kept a v left stores ready now =
         let at : a ≡ ordinary (hidden s) (below_sp (hidden s)) (pushed (hidden s)) true = stores_once look i s bytes calls a v stores in (
           length_written look a v left ∙ now.0,

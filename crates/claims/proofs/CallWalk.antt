@@ -1,10 +1,6 @@
 -- CALL walked: it loads nothing, stores Next on the ordinary stack and, where it makes a frame, on the shadow stack, and moves the
 -- pointers below what it pushed. Assumes nothing.
-use Prim.Native.Nat.{ℕ}
-use mathlib.Core.Bool.{Bool, true, not, cond}
-use mathlib.Core.List.{List}
-use mathlib.Core.Logic.{◌⊎◌, inl, inr}
-use mathlib.Core.Path.{◌≡◌, refl}
+use Rattle.std.proofs.Common.{◌≡◌, ℕ, Bool, true, cond, not, ◌⊎◌, List, refl, inl, inr}
 use Rattle.numbers.specs.Numbers.{byte_count}
 use Rattle.pages.specs.Pages.{Lookup}
 use Rattle.accesses.specs.declared.access.Access.{Access}

@@ -9,12 +9,9 @@
 --     goes_as_far                                the first k do: it counts at least k
 --     ends_at_end                                all do: it ends at the end of the list
 --     ends_at_stop                               the first k do and the next does not: it ends there, with that one's answer
-use Prim.Native.Nat.{ℕ, zero, suc, ◌+◌, ◌≤◌, ◌<◌}
-use mathlib.Core.Bool.{Bool, true, false, cond}
-use mathlib.Core.Path.{◌≡◌, refl, sym, ◌∙◌}
+use Rattle.std.proofs.Common.{◌≡◌, ℕ, zero, suc, ◌+◌, ◌<◌, ◌≤◌, Bool, true, false, cond, sym, refl, ◌∙◌, arith}
 use native.Mathlib.Decide.{ℕ_discrete}
-use native.Mathlib.Omega.{arith}
-use Rattle.processor.specs.Prog.{Step, Result, ended, broken, settle, interp, operate}
+use Rattle.processor.specs.Prog.{Step, Ending, ended, broken, settle, interp, operate}
 use Rattle.answers.specs.declared.answer.Answer.{Answer}
 use Rattle.answers.specs.declared.answer.Answer.TheVariants.{Completed, Refused, Faulted}
 use Rattle.answers.specs.declared.answer.Fault.{Fault}
@@ -29,13 +26,13 @@ use Rattle.claims.specs.Ends.{Unchanged, Counted}
 -- ---- answers
 
 pub refused_stops : (refusal : Refusal) → Refused refusal ≡ Completed → ⊥
-refused_stops refusal e = let z : ◌≡◌ {A = ℕ} 0 1 = cc in omega arith
+refused_stops refusal e = cc
 
 pub faulted_stops : (fault : Fault) → Faulted fault ≡ Completed → ⊥
-faulted_stops fault e = let z : ◌≡◌ {A = ℕ} 0 1 = cc in omega arith
+faulted_stops fault e = cc
 
 pub refused_no_fault : (refusal : Refusal) (fault : Fault) → Refused refusal ≡ Faulted fault → ⊥
-refused_no_fault refusal fault e = let z : ◌≡◌ {A = ℕ} 0 1 = cc in omega arith
+refused_no_fault refusal fault e = cc
 
 pub completes : (a : Answer) → Dec (a ≡ Completed)
 completes Completed = yes refl
@@ -54,10 +51,10 @@ pub unchanged : Unchanged
 unfolding perform operate
 unchanged set look i s bytes stops = go (set.fits i (hidden s)) (interp look (exec set i s) bytes) stops
   where
-    by : Bool → Result State → Step
+    by : Bool → Ending State → Step
     by t r = cond t (settle s bytes r) (refused BadForm s bytes)
 
-    go : (t : Bool) (r : Result State) → ((by t r).answer ≡ Completed → ⊥) → ((by t r).state ≡ s) × ((by t r).bytes ≡ bytes)
+    go : (t : Bool) (r : Ending State) → ((by t r).answer ≡ Completed → ⊥) → ((by t r).state ≡ s) × ((by t r).bytes ≡ bytes)
     go true (ended last stored) no_end = absurd (no_end refl)
     go true (broken fault) no_end = (refl, refl)
     go false r no_end = (refl, refl)

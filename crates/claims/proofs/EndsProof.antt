@@ -1,14 +1,12 @@
 -- Demand 1: how a run ends, and what it leaves. Assumes nothing.
-use Prim.Native.Nat.{ℕ, ◌≤◌, ◌<◌}
-use mathlib.Core.Path.{◌≡◌, refl}
+use Rattle.std.proofs.Common.{◌≡◌, ℕ, ◌<◌, ◌≤◌, Ok, Err, Result, refl}
 use Rattle.processor.specs.Prog.{Step}
 use Rattle.answers.specs.declared.answer.Answer.{Answer}
 use Rattle.answers.specs.declared.answer.Answer.TheVariants.{Completed, Refused, Faulted}
+use Rattle.answers.specs.declared.answer.Refusal.{Refusal}
 use Rattle.instructions.specs.Instruction.{instruction_at, alone}
 use Rattle.perform.specs.Exec.{InstructionSet, perform}
 use Rattle.replay.specs.Run.{Input, look_of, listed, listed_count, with_words, check, step_if, step, Run, onward, ends_at, run_if, run_from, run}
-use Rattle.replay.specs.declared.steps.Tested.{Tested}
-use Rattle.replay.specs.declared.steps.Tested.TheVariants.{Passed, Failed}
 use Rattle.claims.specs.Ends.{RefusedBefore, CountTied, AllComplete, CompletedExactly, StepIsRun, steps_taken, AtMostN}
 use Rattle.claims.proofs.Counts.{refused_stops, faulted_stops, counted, ends_at_end}
 pub use Rattle.claims.proofs.Counts.{unchanged}
@@ -23,16 +21,16 @@ count_tied set given e = rw e (counted set given)
 
 module _ (set : InstructionSet) (given : Input) where
   -- a run that completes was not refused before its first step
-  passed : (run set given).answer ≡ Completed → check given ≡ Passed
+  passed : (run set given).answer ≡ Completed → check given ≡ Ok tt
   unfolding run
   passed e = go (check given) refl e
     where
       steps_run : Run
       steps_run = run_from set (look_of given) (listed given) 0 (listed_count given) given.state given.bytes
 
-      go : (t : Tested) → check given ≡ t → (run_if t steps_run given.state given.bytes).answer ≡ Completed → check given ≡ Passed
-      go Passed h q = h
-      go (Failed refusal) h q = absurd (refused_stops refusal q)
+      go : (t : Result (Unit {0}) Refusal) → check given ≡ t → (run_if t steps_run given.state given.bytes).answer ≡ Completed → check given ≡ Ok tt
+      go (Ok x) h q = h
+      go (Err refusal) h q = absurd (refused_stops refusal q)
 
   -- its count is the whole list's, and what is counted completed
   all_complete : (run set given).answer ≡ Completed → AllComplete set given
@@ -40,7 +38,7 @@ module _ (set : InstructionSet) (given : Input) where
       let c = count_tied set given (passed e) in
       c.completed j (rw (c.at_end e) h)
 
-  completes_all : check given ≡ Passed → AllComplete set given → (run set given).answer ≡ Completed
+  completes_all : check given ≡ Ok tt → AllComplete set given → (run set given).answer ≡ Completed
   completes_all e all = (ends_at_end set given (run set given) (count_tied set given e) (listed_count given) all refl).1
 
 pub completed_exactly : CompletedExactly
@@ -74,9 +72,9 @@ step_is_run set given i = go (check (with_words given (alone i)))
     now : Step
     now = perform set (look_of given) i given.state given.bytes
 
-    go : (t : Tested)
+    go : (t : Result (Unit {0}) Refusal)
         → let r : Run = run_if t (onward now.answer (record { count = 1; answer = Completed; state = now.state; bytes = now.bytes }) (ends_at 0 now)) given.state given.bytes in
         let alone_step : Step = step_if t now given.state given.bytes in
         (alone_step.answer ≡ r.answer) × (alone_step.state ≡ r.state) × (alone_step.bytes ≡ r.bytes)
-    go Passed = one_step 1 now now.answer refl
-    go (Failed refusal) = (refl, refl, refl)
+    go (Ok x) = one_step 1 now now.answer refl
+    go (Err refusal) = (refl, refl, refl)

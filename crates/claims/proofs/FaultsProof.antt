@@ -1,13 +1,6 @@
 -- The numbers of a fault: whatever fault a run ends in, its error code and its address are those of its vector and of the instruction
 -- that it ended at. Assumes nothing.
-use Prim.Native.Nat.{ℕ}
-use mathlib.Core.Bool.{Bool, false, cond}
-use mathlib.Core.List.{List}
-use mathlib.Core.Logic.{⊎_elim}
-use mathlib.Core.Path.{◌≡◌, refl, sym, ◌∙◌, ap}
-use native.Mathlib.Omega.{arith}
-use lib.Dec.{eqb}
-use borrow.Author.Tests.{ne_eqb}
+use Rattle.std.proofs.Common.{◌≡◌, ℕ, Bool, false, cond, eqb, List, Some, Ok, Err, Result, sym, refl, ap, ◌∙◌, ⊎_elim, arith, ne_eqb}
 use Rattle.pages.specs.Pages.{Lookup}
 use Rattle.accesses.specs.declared.access.Access.{Access}
 use Rattle.accesses.specs.declared.reach.Failure.{Failure}
@@ -20,16 +13,15 @@ use Rattle.processor.specs.Prog.{Step}
 use Rattle.answers.specs.declared.answer.Fault.{Fault}
 use Rattle.answers.specs.declared.answer.Vector.{Vector}
 use Rattle.answers.specs.declared.answer.Vector.TheVariants.{InvalidOpcode, Stack, Protection}
+use Rattle.answers.specs.declared.answer.Refusal.{Refusal}
 use Rattle.processor.specs.declared.state.State.{State}
 use Rattle.instructions.specs.Operation.{decoded}
 use Rattle.instructions.specs.Permission.{hidden}
 use Rattle.replay.specs.Run.{look_of, listed, check, Run, after_from, after, built, replayed}
 use Rattle.instructions.specs.declared.instruction.Instruction.{Instruction}
 use Rattle.instructions.specs.declared.operation.Operation.{Operation}
-use Rattle.instructions.specs.declared.operation.Operation.TheVariants.{Incssp, Rstorssp, Saveprevssp, Wrss, Call, Ret, Wruss, Unknown}
+use Rattle.instructions.specs.declared.operation.Operation.TheVariants.{Incssp, Rstorssp, Saveprevssp, Wrss, Call, Ret, Wruss}
 use Rattle.instructions.specs.declared.operation.Release.{Release}
-use Rattle.replay.specs.declared.steps.Tested.{Tested}
-use Rattle.replay.specs.declared.steps.Tested.TheVariants.{Passed, Failed}
 use Rattle.claims.specs.Faults.{control_code, Numbered, FaultNumbers}
 use Rattle.claims.proofs.Counts.{faulted_stops, refused_no_fault}
 use Rattle.claims.proofs.EndsProof.{refused_before, count_tied}
@@ -86,13 +78,12 @@ module _ (look : Lookup) (bytes : List ℕ) where
   stops_numbered (Ret release) i s fault is =
       ⊎_elim (λ e. rw e (of_ss (Ret release))) (⊎_elim (λ e. rw e (of_gp (Ret release))) (λ e. rw e (of_ret release))) is
   stops_numbered (Wruss size) i s fault is = ⊎_elim (λ e. rw e (of_ud (Wruss size))) (λ e. rw e (of_gp (Wruss size))) is
-  stops_numbered Unknown i s fault is = rw is (of_ud Unknown)
 
   -- an instruction: a stop of its operation, or an access of it
-  breaks_numbered : (i : Instruction) (s : State) (fault : Fault) → Breaks (shown_rule look i s bytes) fault → Numbered (decoded i.code) fault
-  breaks_numbered i s fault (at_stop stops) = stops_numbered (decoded i.code) i (hidden s) fault stops
-  breaks_numbered i s fault (at_load a failure loads) = blamed (decoded i.code) a failure
-  breaks_numbered i s fault (at_store a v failure stores) = blamed (decoded i.code) a failure
+  breaks_numbered : (op : Operation) (i : Instruction) (s : State) (fault : Fault) → decoded i.code ≡ Some op → Breaks (shown_rule look i s bytes) fault → Numbered op fault
+  breaks_numbered op i s fault named (at_stop stops) = stops_numbered op i (hidden s) fault (rw named at stops)
+  breaks_numbered op i s fault named (at_load a failure loads) = blamed op a failure
+  breaks_numbered op i s fault named (at_store a v failure stores) = blamed op a failure
 
 -- ---- a run ends in the fault of the single operation at its count
 
@@ -109,8 +100,10 @@ fault_numbers given fault e = go (check given) refl
     at : Instruction
     at = listed given r.count
 
-    go : (t : Tested) → check given ≡ t → Numbered (decoded at.code) fault
-    go Passed h =
+    go : (t : Result (Unit {0}) Refusal) → check given ≡ t → (op : Operation) × (decoded at.code ≡ Some op) × Numbered op fault
+    go (Ok x) h =
         let there = (count_tied (built given) given h).at_stop (λ q. faulted_stops fault (sym e ∙ q)) in
-        breaks_numbered (look_of given) last.bytes at last.state fault (breaks_at given (look_of given) at last.state last.bytes fault (there.1 ∙ e))
-    go (Failed refusal) h = absurd (refused_no_fault refusal fault (sym (ap (λ (q : Run). q.answer) (refused_before (built given) given refusal h)) ∙ e))
+        let both = breaks_at given (look_of given) at last.state last.bytes fault (there.1 ∙ e) in
+        let of = both.0 in
+        (of.op, of.named, breaks_numbered (look_of given) last.bytes of.op at last.state fault of.named both.1)
+    go (Err refusal) h = absurd (refused_no_fault refusal fault (sym (ap (λ (q : Run). q.answer) (refused_before (built given) given refusal h)) ∙ e))

@@ -1,25 +1,21 @@
 -- One instruction with the permission bits switched on: no operation is shown them, so unless it was a WRSS that is not permitted it
 -- does the same. Assumes nothing.
-use Prim.Native.Nat.{ℕ}
-use mathlib.Core.Bool.{Bool, true, false, not, cond, ◌&&◌, true≢false, and-eq-true_iff}
-use mathlib.Core.List.{List}
-use mathlib.Core.Path.{◌≡◌, refl, sym, ◌∙◌, ap}
+use Rattle.std.proofs.Common.{◌≡◌, ℕ, Bool, true, false, cond, not, ◌&&◌, List, sym, refl, ap, ◌∙◌, true≢false}
+use mathlib.Core.Bool.{and-eq-true_iff}
 use borrow.Author.Tests.{not-true, not-false}
 use Rattle.pages.specs.Pages.{Lookup}
 use Rattle.numbers.specs.declared.size.Size.{Size}
 use Rattle.answers.specs.Answer.{ud}
 use Rattle.processor.specs.State.{usable, permitted}
-use Rattle.processor.specs.Prog.{Prog, stop, ◌>>=◌, Result, ended, broken, interp, Step, operate}
-use Rattle.answers.specs.declared.answer.Answer.{Answer}
-use Rattle.answers.specs.declared.answer.Answer.TheVariants.{Completed, Refused, Faulted}
+use Rattle.processor.specs.Prog.{Prog, done, stop, ◌>>=◌, Ending, ended, broken, interp, Step, settle, operate}
+use Rattle.answers.specs.declared.answer.Answer.TheVariants.{Faulted}
 use Rattle.answers.specs.declared.answer.Fault.{Fault}
 use Rattle.answers.specs.declared.answer.Refusal.TheVariants.{Instruction as BadForm}
 use Rattle.processor.specs.declared.state.State.{State}
 use Rattle.processor.proofs.Laws.{continues, breaks, faults}
-use Rattle.perform.proofs.ExecLaws.{put_back, back_from, put_back_lem}
 use Rattle.wrss.specs.Wrss.{wrss}
 use Rattle.instructions.specs.Operation.{decoded, is_wrss, wrss_size}
-use Rattle.instructions.specs.Permission.{hidden}
+use Rattle.instructions.specs.Permission.{hidden, shown}
 use Rattle.perform.specs.Exec.{InstructionSet, operation_of, whole, exec, refused, perform}
 use Rattle.replay.specs.Run.{ends_at}
 use Rattle.instructions.specs.declared.instruction.Instruction.{Instruction}
@@ -81,18 +77,26 @@ module _ (user supervisor : Bool) (s : State) where
 
 -- ---- what is handed back, with the bits put back
 
-same_back : (user supervisor : Bool) (s : State) (now : Step) (answer : Answer) → now.answer ≡ answer → back_from (granted user supervisor s) now ≡ on_step user supervisor (back_from s now)
-same_back user supervisor s now Completed e = rw (e, shown_granted user supervisor s now.state)
-same_back user supervisor s now (Refused refusal) e = rw e
-same_back user supervisor s now (Faulted fault) e = rw e
+-- a program whose last state gets the permission bits of another
+abbrev put_back : Prog State → State → Prog State
+put_back p s = p >>= (λ t. done (shown s t))
 
 -- one program, from either state
 same_put_back : (user supervisor : Bool) (look : Lookup) (p : Prog State) (s : State) (bytes : List ℕ)
     → operate look (put_back p (granted user supervisor s)) (granted user supervisor s) bytes ≡ on_step user supervisor (operate look (put_back p s) s bytes)
-same_put_back user supervisor look p s bytes =
-    put_back_lem look p (granted user supervisor s) s bytes
-    ∙ same_back user supervisor s (operate look p s bytes) _ refl
-    ∙ ap (on_step user supervisor) (sym (put_back_lem look p s s bytes))
+unfolding operate interp
+same_put_back user supervisor look p s bytes = go (interp look p bytes) refl
+  where
+    more : State
+    more = granted user supervisor s
+
+    back : State → State → Prog State
+    back from t = done (shown from t)
+
+    go : (r : Ending State) → interp look p bytes ≡ r
+        → settle more bytes (interp look (p >>= back more) bytes) ≡ on_step user supervisor (settle s bytes (interp look (p >>= back s) bytes))
+    go (ended t left) e = rw (continues look (back more) p bytes t left e, continues look (back s) p bytes t left e, shown_granted user supervisor s t)
+    go (broken fault) e = rw (breaks look (back more) p bytes fault e, breaks look (back s) p bytes fault e)
 
 -- ---- one instruction
 
@@ -104,7 +108,7 @@ module _ (set : InstructionSet) (look : Lookup) (i : Instruction) (s : State) (b
   exec_faults : (fault : Fault) → interp look (whole set i (permitted s) (hidden s)) bytes ≡ broken fault → operate look (exec set i s) s bytes ≡ broken_off fault
   unfolding exec broken_off
   exec_faults fault e =
-      put_back_lem look (whole set i (permitted s) (hidden s)) s s bytes ∙ ap (back_from s) (faults look (whole set i (permitted s) (hidden s)) s bytes fault e)
+      faults look (exec set i s) s bytes fault (breaks look (λ t. done (shown s t)) (whole set i (permitted s) (hidden s)) bytes fault e)
 
   -- by how what precedes it ends: that breaks off
   before_faults : (fault : Fault) → interp look (set.precedes i (hidden s)) bytes ≡ broken fault → operate look (exec set i s) s bytes ≡ broken_off fault
@@ -129,7 +133,7 @@ module _ (set : InstructionSet) (look : Lookup) (i : Instruction) (s : State) (b
   unfolding exec whole broken_off
   same_exec true d e = go (interp look (set.precedes i (hidden s)) bytes) refl
     where
-      go : (r : Result (Unit {0})) → interp look (set.precedes i (hidden s)) bytes ≡ r → operate look (exec set i more) more bytes ≡ on_step user supervisor (operate look (exec set i s) s bytes)
+      go : (r : Ending (Unit {0})) → interp look (set.precedes i (hidden s)) bytes ≡ r → operate look (exec set i more) more bytes ≡ on_step user supervisor (operate look (exec set i s) s bytes)
       go (ended x left) q = absurd (true≢false (sym d ∙ (rw (denied_faults set look i s bytes d x left q) at e)))
       go (broken fault) q =
           before_faults set look i more bytes fault (rw (hidden_granted user supervisor s) q) ∙ sym (ap (on_step user supervisor) (before_faults set look i s bytes fault q))

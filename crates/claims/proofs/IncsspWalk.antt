@@ -1,10 +1,5 @@
 -- INCSSP walked: it loads the first and the last element popped, stores nothing, and moves SSP past all of them. Assumes nothing.
-use Prim.Native.Nat.{ℕ, ◌-◌, ◌*◌, ◌%◌}
-use mathlib.Core.Bool.{false}
-use mathlib.Core.List.{List}
-use mathlib.Core.Logic.{◌⊎◌, inl, inr}
-use mathlib.Core.Path.{◌≡◌, refl}
-use lib.Dec.{ltb}
+use Rattle.std.proofs.Common.{◌≡◌, ℕ, ◌-◌, ◌*◌, ◌%◌, false, ltb, ◌⊎◌, List, refl, inl, inr}
 use Rattle.numbers.specs.Numbers.{byte_count}
 use Rattle.pages.specs.Pages.{Lookup}
 use Rattle.numbers.specs.declared.size.Size.{Size}

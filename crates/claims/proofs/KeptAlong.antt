@@ -1,22 +1,19 @@
 -- What each instruction keeps that completes, a whole run keeps, however it ends. Assumes nothing.
-use Prim.Native.Nat.{ℕ, zero, suc, ◌<◌}
-use mathlib.Core.Path.{◌≡◌, refl, sym, subst}
-use native.Mathlib.Omega.{arith}
+use Rattle.std.proofs.Common.{◌≡◌, ℕ, zero, suc, ◌<◌, Ok, Err, Result, sym, refl, subst, arith}
 use Rattle.answers.specs.declared.answer.Answer.TheVariants.{Completed}
+use Rattle.answers.specs.declared.answer.Refusal.{Refusal}
 use Rattle.processor.specs.declared.state.State.{State}
 use Rattle.perform.specs.Exec.{InstructionSet}
 use Rattle.replay.specs.Run.{Input, check, Run, run, after_from, after}
-use Rattle.replay.specs.declared.steps.Tested.{Tested}
-use Rattle.replay.specs.declared.steps.Tested.TheVariants.{Passed, Failed}
 use Rattle.claims.proofs.EndsProof.{refused_before, count_tied}
 
 -- what is counted completed
 pub done_below : (set : InstructionSet) (given : Input) (j : ℕ) → j < (run set given).count → (after set given (suc j)).answer ≡ Completed
 done_below set given = go (check given) refl
   where
-    go : (t : Tested) → check given ≡ t → (j : ℕ) → j < (run set given).count → (after set given (suc j)).answer ≡ Completed
-    go Passed e = (count_tied set given e).completed
-    go (Failed refusal) e = rw (refused_before set given refusal e) (λ j none. absurd (omega arith))
+    go : (t : Result (Unit {0}) Refusal) → check given ≡ t → (j : ℕ) → j < (run set given).count → (after set given (suc j)).answer ≡ Completed
+    go (Ok x) e = (count_tied set given e).completed
+    go (Err refusal) e = rw (refused_before set given refusal e) (λ j none. absurd (omega arith))
 
 module _ (set : InstructionSet) (given : Input) (P : ℕ → State → Type 0) where
   -- the first n instructions, where each completes, keep P, which is told how many have completed
@@ -36,8 +33,8 @@ module _ (set : InstructionSet) (given : Input) (P : ℕ → State → Type 0) w
   pub run_keeps : P 0 given.state → KeptBy (run set given)
   run_keeps start = go (check given) refl
     where
-      go : (t : Tested) → check given ≡ t → KeptBy (run set given)
-      go Passed e = λ keep.
+      go : (t : Result (Unit {0}) Refusal) → check given ≡ t → KeptBy (run set given)
+      go (Ok x) e = λ keep.
           let c = count_tied set given e in
           subst (P (run set given).count) (sym c.state_after) (kept_after (run set given).count start keep c.completed)
-      go (Failed refusal) e = rw (refused_before set given refusal e) (λ keep. start)
+      go (Err refusal) e = rw (refused_before set given refusal e) (λ keep. start)

@@ -1,11 +1,5 @@
 -- The ledger of the shadow stack pointer: each operation's turn of it, and the turns of a run added up. Assumes nothing.
-use Prim.Native.Nat.{ℕ, zero, suc, ◌+◌, ◌%◌, ◌^◌, ◌<◌, ◌≤◌}
-use mathlib.Core.Bool.{Bool, true, false, not, cond, ◌&&◌}
-use mathlib.Core.List.{List}
-use mathlib.Core.Path.{◌≡◌, refl, sym, ◌∙◌, ap, subst}
-use native.Mathlib.Omega.{arith}
-use lib.Dec.{eqb, ltb}
-use borrow.Author.Tests.{ltb-true}
+use Rattle.std.proofs.Common.{◌≡◌, ℕ, zero, suc, ◌+◌, ◌%◌, ◌^◌, ◌<◌, ◌≤◌, Bool, true, false, cond, not, ◌&&◌, eqb, ltb, List, Some, sym, refl, ap, ◌∙◌, subst, arith, ltb-true}
 use Rattle.numbers.specs.Numbers.{byte_count}
 use Rattle.addresses.specs.Address.{wrapped}
 use Rattle.addresses.specs.declared.address.Width.{Width}
@@ -19,15 +13,15 @@ use Rattle.saveprevssp.specs.Saveprevssp.{carry}
 use Rattle.targets.specs.Targets.{pushed, displaced}
 use Rattle.call.specs.Call.{pushes_frame}
 use Rattle.instructions.specs.Operation.{decoded}
-use Rattle.instructions.specs.Instruction.{words_fit, fits, well_formed}
+use Rattle.instructions.specs.Instruction.{words_fit, fits}
 use Rattle.instructions.specs.Permission.{hidden, shown}
 use Rattle.perform.specs.Exec.{perform}
 use Rattle.replay.specs.Run.{Input, look_of, listed, after_from, after, built, replayed}
 use Rattle.instructions.specs.declared.instruction.Instruction.{Instruction}
 use Rattle.instructions.specs.declared.operation.Operation.{Operation}
-use Rattle.instructions.specs.declared.operation.Operation.TheVariants.{Incssp, Rstorssp, Saveprevssp, Wrss, Call, Ret, Wruss, Unknown}
+use Rattle.instructions.specs.declared.operation.Operation.TheVariants.{Incssp, Rstorssp, Saveprevssp, Wrss, Call, Ret, Wruss}
 use Rattle.instructions.specs.declared.operation.Target.TheVariants.{Relative, Absolute}
-use Rattle.claims.specs.Ledger.{frame_bytes, popped, pushed_by, sum_of, OneMode, LedgerInOneMode, KeepsOneMode, Ledger}
+use Rattle.claims.specs.Ledger.{frame_bytes, popped, pushed_by, counted, sum_of, OneMode, LedgerInOneMode, KeepsOneMode, Ledger}
 use Rattle.claims.proofs.CallWalk.{below_ssp}
 use Rattle.claims.proofs.RetWalk.{past_frame}
 use Rattle.claims.proofs.SaveprevsspWalk.{past_token}
@@ -99,7 +93,6 @@ module _ (look : Lookup) (bytes : List ℕ) where
   turn (Call Absolute) i s t form end other same = rw end.1 (below_turn s true)
   turn (Ret release) i s t form end other same = rw end.1 (frame_turn s)
   turn (Wruss size) i s t form is other same = rw is
-  turn Unknown i s t form none other same = absurd none
 
   same_mode : (op : Operation) (i : Instruction) (s t : State) → (rule_of look bytes op i s).ends t → t.mode ≡ s.mode
   same_mode (Incssp size) i s t is = rw is
@@ -109,7 +102,6 @@ module _ (look : Lookup) (bytes : List ℕ) where
   same_mode (Call how) i s t end = rw end.1
   same_mode (Ret release) i s t end = rw end.1
   same_mode (Wruss size) i s t is = rw is
-  same_mode Unknown i s t none = absurd none
 
 -- ---- an instruction: the permission bits play no part
 
@@ -119,43 +111,33 @@ frame_hidden s = rw (← enabled_hidden s)
 
 popped_hidden : (op : Operation) (i : Instruction) (s : State) → popped op i (hidden s) ≡ popped op i s
 unfolding hidden
-popped_hidden (Incssp size) i s = refl
-popped_hidden Rstorssp i s = refl
-popped_hidden Saveprevssp i s = refl
-popped_hidden (Wrss size) i s = refl
-popped_hidden (Call how) i s = refl
 popped_hidden (Ret release) i s = rw (← frame_hidden s)
-popped_hidden (Wruss size) i s = refl
-popped_hidden Unknown i s = refl
+popped_hidden other i s = refl
 
 pushed_hidden : (op : Operation) (i : Instruction) (s : State) → pushed_by op i (hidden s) ≡ pushed_by op i s
-pushed_hidden (Incssp size) i s = refl
-pushed_hidden Rstorssp i s = refl
-pushed_hidden Saveprevssp i s = refl
-pushed_hidden (Wrss size) i s = refl
 pushed_hidden (Call Relative) i s = rw (← frame_hidden s)
 pushed_hidden (Call Absolute) i s = rw (← frame_hidden s)
-pushed_hidden (Ret release) i s = refl
-pushed_hidden (Wruss size) i s = refl
-pushed_hidden Unknown i s = refl
+pushed_hidden other i s = refl
 
 module _ (given : Input) (look : Lookup) (i : Instruction) (s : State) (bytes : List ℕ) (done : (perform (built given) look i s bytes).answer ≡ Completed) where
   abbrev last : State
   last = (perform (built given) look i s bytes).state
 
-  its_turn : Turn (decoded i.code) i s last
-  unfolding hidden shown well_formed
+  its_turn : (decoded i.code ≡ Some Rstorssp → ⊥) → last.mode ≡ s.mode
+      → Even s (counted popped (decoded i.code) i s) last.ssp (counted pushed_by (decoded i.code) i s)
+  unfolding hidden shown
   its_turn other same =
-      let end = completes_at given look i s bytes done in
-      let mode : end.1.0.mode ≡ s.mode = rw end.1.2 at same in
-      let even = turn look bytes (decoded i.code) i (hidden s) end.1.0 end.0 end.1.1 other mode in
-      rw end.1.2 (rw (popped_hidden (decoded i.code) i s, pushed_hidden (decoded i.code) i s) at even)
+      let it = completes_at given look i s bytes done in
+      let op : Operation = it.of.op in
+      let mode : it.end.mode ≡ s.mode = rw it.bits_back at same in
+      let even = turn look bytes op i (hidden s) it.end it.of.form it.ends (λ e. other (it.of.named ∙ ap Some e)) mode in
+      rw (it.of.named, it.bits_back) (rw (popped_hidden op i s, pushed_hidden op i s) at even)
 
   mode_stays : last.mode ≡ s.mode
   unfolding hidden shown
   mode_stays =
-      let end = completes_at given look i s bytes done in
-      rw end.1.2 (same_mode look bytes (decoded i.code) i (hidden s) end.1.0 end.1.1)
+      let it = completes_at given look i s bytes done in
+      rw it.bits_back (same_mode look bytes it.of.op i (hidden s) it.end it.ends)
 
 -- ---- whole runs
 
@@ -181,10 +163,10 @@ module _ (given : Input) where
 
   -- what the j-th instruction counts for
   abbrev up : ℕ → ℕ
-  up j = popped (decoded (listed given j).code) (listed given j) (opening j)
+  up j = counted popped (decoded (listed given j).code) (listed given j) (opening j)
 
   abbrev down : ℕ → ℕ
-  down j = pushed_by (decoded (listed given j).code) (listed given j) (opening j)
+  down j = counted pushed_by (decoded (listed given j).code) (listed given j) (opening j)
 
   one_more : (j : ℕ) (t : State) → (opening j).mode ≡ start.mode → EvenAfter j (opening j) → Even (opening j) (up j) t.ssp (down j) → EvenAfter (suc j) t
   unfolding sum_of
@@ -196,15 +178,15 @@ pub ledger_in_one_mode : LedgerInOneMode
 unfolding after_from sum_of
 ledger_in_one_mode given one other =
     run_keeps (built given) given (EvenAfter given) refl
-    (λ j counted before done.
+    (λ j below before done.
     let mode : (opening given j).mode ≡ given.state.mode = opening_mode given one j (omega arith) in
-    let same : (opening given (suc j)).mode ≡ (opening given j).mode = one j counted ∙ sym mode in
-    one_more given j (opening given (suc j)) mode before (its_turn given (look_of given) (listed given j) (opening given j) _ done (other j counted) same))
+    let same : (opening given (suc j)).mode ≡ (opening given j).mode = one j below ∙ sym mode in
+    one_more given j (opening given (suc j)) mode before (its_turn given (look_of given) (listed given j) (opening given j) _ done (other j below) same))
 
 -- today no instruction changes the mode
 pub keeps_one_mode : KeepsOneMode
 unfolding after_from
-keeps_one_mode given j counted =
+keeps_one_mode given j in_run =
     kept_after (built given) given (λ k t. t.mode ≡ given.state.mode) (suc j) refl
     (λ k below before done. mode_stays given (look_of given) (listed given k) _ _ done ∙ before)
     (λ k below. done_below (built given) given k (omega arith))

@@ -1,28 +1,21 @@
 -- The order of a page list has no meaning of its own: two runs over the same pages end alike, page faults included. Assumes nothing.
-use Prim.Native.Nat.{ℕ, suc}
-use mathlib.Core.Bool.{Bool, true, false, cond, true≢false}
-use mathlib.Core.List.{List}
-use mathlib.Core.Path.{◌≡◌, refl, sym, ◌∙◌}
-use lib.ListN.{length}
+use Rattle.std.proofs.Common.{◌≡◌, ℕ, suc, Bool, true, false, cond, List, length, Ok, Err, Result, sym, refl, ◌∙◌, true≢false}
 use Rattle.accesses.specs.Access.{probe, value, written}
 use Rattle.memory.specs.Extends.{Places, HoldsPages}
 use Rattle.pages.specs.Pages.{Lookup, listing}
 use Rattle.accesses.specs.declared.access.Access.{Access}
-use Rattle.accesses.specs.declared.reach.Reach.{Reach}
-use Rattle.accesses.specs.declared.reach.Reach.TheVariants.{Ready, Blocked}
-use Rattle.pages.specs.declared.pages.Listing.TheVariants.{Valid}
 use Rattle.memory.proofs.Laws.{lookup_places, same_value, alike_probe, order_free as same-cells}
-use Rattle.processor.specs.Prog.{Prog, done, stop, fetch, put, Result, on_reach, interp, settle, operate}
+use Rattle.processor.specs.Prog.{Prog, done, stop, fetch, put, Ending, on_reach, interp, settle, operate}
 use Rattle.answers.specs.declared.answer.Answer.{Answer}
 use Rattle.answers.specs.declared.answer.Answer.TheVariants.{Completed}
 use Rattle.answers.specs.declared.answer.Refusal.TheVariants.{Instruction as BadForm}
+use Rattle.answers.specs.declared.answer.Refusal.{Refusal}
+use Rattle.accesses.specs.declared.reach.Failure.{Failure}
 use Rattle.processor.specs.declared.state.State.{State}
 use Rattle.instructions.specs.Permission.{hidden}
 use Rattle.perform.specs.Exec.{InstructionSet, exec, refused, perform}
 use Rattle.replay.specs.Run.{Input, look_of, listed, with_pages, check, Run, run, after_from, after}
 use Rattle.instructions.specs.declared.instruction.Instruction.{Instruction}
-use Rattle.replay.specs.declared.steps.Tested.{Tested}
-use Rattle.replay.specs.declared.steps.Tested.TheVariants.{Passed, Failed}
 use Rattle.claims.specs.Ends.{Counted}
 use Rattle.claims.specs.ListOrder.{SameEnd, OrderFree}
 use Rattle.claims.specs.MorePages.{is_page_fault, EndsAlike}
@@ -36,16 +29,16 @@ use Rattle.claims.proofs.MorePagesProof.{no_fault, same_test, same_after, whole,
 module _ (look₁ look₂ : Lookup) (lent₁ lent₂ : List ℕ) (places₁ : Places look₁ (length lent₁)) (places₂ : Places look₂ (length lent₂)) (tried : (a : Access) → probe look₁ a ≡ probe look₂ a) where
   -- `before₁` and `before₂` are the bytes that a fault gives back; the program's own have moved on since
   module _ (s : State) (before₁ before₂ : List ℕ) where
-    abbrev SameAnswer : Result State → Result State → Type 0
+    abbrev SameAnswer : Ending State → Ending State → Type 0
     SameAnswer r₁ r₂ = (settle s before₂ r₂).answer ≡ (settle s before₁ r₁).answer
 
     -- an access, and what comes after it
-    reach : (a : Access) (go₁ go₂ : Result State) → (probe look₁ a ≡ Ready → SameAnswer go₁ go₂) → SameAnswer (on_reach a (probe look₁ a) go₁) (on_reach a (probe look₂ a) go₂)
+    reach : (a : Access) (go₁ go₂ : Ending State) → (probe look₁ a ≡ Ok tt → SameAnswer go₁ go₂) → SameAnswer (on_reach a (probe look₁ a) go₁) (on_reach a (probe look₂ a) go₂)
     reach a go₁ go₂ later = rw (← tried a) (by (probe look₁ a) refl)
       where
-        by : (r : Reach) → probe look₁ a ≡ r → SameAnswer (on_reach a r go₁) (on_reach a r go₂)
-        by Ready e = later e
-        by (Blocked failure) e = refl
+        by : (r : Result (Unit {0}) Failure) → probe look₁ a ≡ r → SameAnswer (on_reach a r go₁) (on_reach a r go₂)
+        by (Ok x) e = later e
+        by (Err failure) e = refl
 
     program : (p : Prog State) (bytes₁ bytes₂ : List ℕ) → Beside look₁ look₂ lent₁ lent₂ bytes₁ bytes₂ → SameAnswer (interp look₁ p bytes₁) (interp look₂ p bytes₂)
     unfolding interp
@@ -75,7 +68,7 @@ module _ (look₁ look₂ : Lookup) (lent₁ lent₂ : List ℕ) (places₁ : Pl
 without_fault : (pages₁ pages₂ lent₂ : List ℕ) (r₁ r₂ : Run) → EndsAlike pages₁ pages₂ lent₂ r₁ r₂ → SameEnd pages₁ pages₂ r₁ r₂
 without_fault pages₁ pages₂ lent₂ r₁ r₂ alike = record { count = alike.count; answer = alike.answer; registers = alike.memory.registers; bytes = alike.memory.old }
 
-module _ (set : InstructionSet) (given : Input) (pages₂ lent₂ : List ℕ) (valid₁ : listing given.pages (length given.bytes) ≡ Valid) (valid₂ : listing pages₂ (length lent₂) ≡ Valid)
+module _ (set : InstructionSet) (given : Input) (pages₂ lent₂ : List ℕ) (valid₁ : listing given.pages (length given.bytes) ≡ Ok tt) (valid₂ : listing pages₂ (length lent₂) ≡ Ok tt)
     (there : HoldsPages given.pages given.bytes pages₂ lent₂) (back : HoldsPages pages₂ lent₂ given.pages given.bytes) where
   abbrev other : Input
   other = with_pages given pages₂ lent₂
@@ -124,8 +117,8 @@ order_free set given pages₂ lent₂ valid₁ valid₂ there back = by (check g
     no_page_fault : is_page_fault r₁.answer ≡ false → SameEnd given.pages pages₂ r₁ r₂
     no_page_fault no_page = without_fault given.pages pages₂ lent₂ r₁ r₂ ((more_pages set given pages₂ lent₂ valid₁ valid₂ there).0 no_page)
 
-    by : (t : Tested) → check given ≡ t → SameEnd given.pages pages₂ r₁ r₂
-    by Passed e = ends (is_page_fault r₁.answer) refl
+    by : (t : Result (Unit {0}) Refusal) → check given ≡ t → SameEnd given.pages pages₂ r₁ r₂
+    by (Ok x) e = ends (is_page_fault r₁.answer) refl
       where
         c₂ : Counted set (with_pages given pages₂ lent₂) r₂
         c₂ = count_tied set (with_pages given pages₂ lent₂) (same_test set given pages₂ lent₂ valid₁ valid₂ there ∙ e)
@@ -133,4 +126,4 @@ order_free set given pages₂ lent₂ valid₁ valid₂ there back = by (check g
         ends : (page : Bool) → is_page_fault r₁.answer ≡ page → SameEnd given.pages pages₂ r₁ r₂
         ends true page = at_fault set given pages₂ lent₂ valid₁ valid₂ there back r₁ r₂ (count_tied set given e) c₂ page
         ends false page = no_page_fault page
-    by (Failed refusal) e = no_page_fault (rw (refused_before set given refusal e))
+    by (Err refusal) e = no_page_fault (rw (refused_before set given refusal e))

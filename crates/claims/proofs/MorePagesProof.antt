@@ -1,14 +1,8 @@
 -- Demand 3 for page lists: more memory never alters an answer already given. Assumes nothing.
-use Prim.Native.Nat.{ℕ, suc, ◌<◌}
-use mathlib.Core.Bool.{true, false, true≢false}
-use mathlib.Core.List.{List}
-use mathlib.Core.Path.{◌≡◌, refl, sym, ◌∙◌}
-use native.Mathlib.Omega.{arith}
-use lib.ListN.{length}
+use Rattle.std.proofs.Common.{◌≡◌, ℕ, suc, ◌<◌, true, false, List, length, Ok, Err, Result, sym, refl, ◌∙◌, true≢false, arith}
 use Rattle.accesses.specs.Access.{lookup_of}
 use Rattle.memory.specs.Extends.{Extends, HoldsPages}
 use Rattle.pages.specs.Pages.{listing}
-use Rattle.pages.specs.declared.pages.Listing.TheVariants.{Valid}
 use Rattle.memory.proofs.Laws.{lookup_kept, lookup_places, pages_extend, extends_pages}
 use Rattle.answers.specs.declared.answer.Answer.{Answer}
 use Rattle.answers.specs.declared.answer.Answer.TheVariants.{Completed}
@@ -16,8 +10,6 @@ use Rattle.answers.specs.declared.answer.Refusal.{Refusal}
 use Rattle.processor.specs.declared.state.State.{State}
 use Rattle.perform.specs.Exec.{InstructionSet, refused}
 use Rattle.replay.specs.Run.{Input, look_of, listed, with_pages, check_by, check, Run, ends_at, run, after}
-use Rattle.replay.specs.declared.steps.Tested.{Tested}
-use Rattle.replay.specs.declared.steps.Tested.TheVariants.{Passed, Failed}
 use Rattle.claims.specs.Ends.{Counted}
 use Rattle.claims.specs.MorePages.{is_page_fault, SameMemory, EndsAlike, GoesAsFar, MorePages}
 use Rattle.claims.proofs.Beside.{Beside, StepsAlike, alike}
@@ -29,7 +21,7 @@ pub no_fault : (a : Answer) → a ≡ Completed → is_page_fault a ≡ false
 no_fault a e = rw e
 
 -- `pages₂` and `lent₂` are the second list and the bytes that its run begins with
-module _ (set : InstructionSet) (given : Input) (pages₂ lent₂ : List ℕ) (valid₁ : listing given.pages (length given.bytes) ≡ Valid) (valid₂ : listing pages₂ (length lent₂) ≡ Valid)
+module _ (set : InstructionSet) (given : Input) (pages₂ lent₂ : List ℕ) (valid₁ : listing given.pages (length given.bytes) ≡ Ok tt) (valid₂ : listing pages₂ (length lent₂) ≡ Ok tt)
     (holds : HoldsPages given.pages given.bytes pages₂ lent₂) where
   abbrev more : Input
   more = with_pages given pages₂ lent₂
@@ -112,11 +104,11 @@ more_pages set given pages₂ lent₂ valid₁ valid₂ holds = by (check given)
     same : check (with_pages given pages₂ lent₂) ≡ check given
     same = same_test set given pages₂ lent₂ valid₁ valid₂ holds
 
-    by : (t : Tested) → check given ≡ t → Claimed set given pages₂ lent₂ valid₁ valid₂ holds (run set given) (run set (with_pages given pages₂ lent₂))
-    by Passed e =
+    by : (t : Result (Unit {0}) Refusal) → check given ≡ t → Claimed set given pages₂ lent₂ valid₁ valid₂ holds (run set given) (run set (with_pages given pages₂ lent₂))
+    by (Ok x) e =
         let c₁ = count_tied set given e in
         let c₂ = count_tied set (with_pages given pages₂ lent₂) (same ∙ e) in
         (ends_alike set given pages₂ lent₂ valid₁ valid₂ holds _ _ c₁ c₂, λ page. goes_on set given pages₂ lent₂ valid₁ valid₂ holds _ _ c₁ c₂)
-    by (Failed refusal) e =
+    by (Err refusal) e =
         rw (refused_before set given refusal e, refused_before set (with_pages given pages₂ lent₂) refusal (same ∙ e))
         (refused_alike set given pages₂ lent₂ valid₁ valid₂ holds refusal)

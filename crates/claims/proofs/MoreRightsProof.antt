@@ -1,20 +1,15 @@
 -- Demand 3 for the permission bits: by induction over the list, each step of the second run being that of the first with the bits
 -- switched on. Assumes nothing.
-use Prim.Native.Nat.{ℕ, zero, suc, ◌≤◌}
-use mathlib.Core.Bool.{Bool, true, false}
-use mathlib.Core.List.{List}
-use mathlib.Core.Path.{◌≡◌, refl, sym, ◌∙◌, ap}
-use native.Mathlib.Omega.{arith}
+use Rattle.std.proofs.Common.{◌≡◌, ℕ, zero, suc, ◌≤◌, Bool, true, false, List, Ok, Err, Result, sym, refl, ap, ◌∙◌, arith}
 use Rattle.pages.specs.Pages.{Lookup}
 use Rattle.processor.specs.Prog.{Step}
 use Rattle.answers.specs.declared.answer.Answer.{Answer}
 use Rattle.answers.specs.declared.answer.Answer.TheVariants.{Completed, Refused, Faulted}
+use Rattle.answers.specs.declared.answer.Refusal.{Refusal}
 use Rattle.processor.specs.declared.state.State.{State}
 use Rattle.perform.specs.Exec.{InstructionSet, perform}
 use Rattle.replay.specs.Run.{look_of, listed, listed_count, check, Run, ends_at, onward, run_from, run_if, run, after_from}
 use Rattle.instructions.specs.declared.instruction.Instruction.{Instruction}
-use Rattle.replay.specs.declared.steps.Tested.{Tested}
-use Rattle.replay.specs.declared.steps.Tested.TheVariants.{Passed, Failed}
 use Rattle.claims.specs.MoreRights.{granted, not_permitted, AlikeButBits, AlikeBefore, MoreRights}
 use Rattle.claims.proofs.Counts.{unchanged, refused_stops, faulted_stops}
 use Rattle.claims.proofs.NeverBack.{onward_count, count_from}
@@ -113,12 +108,12 @@ more_rights set user supervisor given = rw (range_granted user supervisor s) (go
     s = given.state
 
     -- the run from a state, by what is tested before any step
-    run_of : Tested → State → Run
+    run_of : Result (Unit {0}) Refusal → State → Run
     run_of t from = run_if t (run_from set (look_of given) (listed given) 0 (listed_count given) from given.bytes) from given.bytes
 
     start : Reached set (look_of given) (listed given) user supervisor (granted user supervisor s) given.bytes 0 s given.bytes
     start = record { state_is = refl; bytes_are = refl }
 
-    go : (t : Tested) → Beside set (look_of given) (listed given) user supervisor (granted user supervisor s) given.bytes (run_of t s) (run_of t (granted user supervisor s))
-    go Passed = beside_from set (look_of given) (listed given) user supervisor (granted user supervisor s) given.bytes 0 (listed_count given) s given.bytes start
-    go (Failed refusal) = ends_before set (look_of given) (listed given) user supervisor (granted user supervisor s) given.bytes 0 (Refused refusal) s given.bytes start
+    go : (t : Result (Unit {0}) Refusal) → Beside set (look_of given) (listed given) user supervisor (granted user supervisor s) given.bytes (run_of t s) (run_of t (granted user supervisor s))
+    go (Ok x) = beside_from set (look_of given) (listed given) user supervisor (granted user supervisor s) given.bytes 0 (listed_count given) s given.bytes start
+    go (Err refusal) = ends_before set (look_of given) (listed given) user supervisor (granted user supervisor s) given.bytes 0 (Refused refusal) s given.bytes start

@@ -1,11 +1,6 @@
 -- The permission bits of WRSS, hidden, put back and switched on: nothing else that is read off a state changes, and a WRSS that was
 -- permitted still is. Assumes nothing.
-use Prim.Native.Nat.{ℕ, ◌+◌, ◌*◌, ◌/◌, ◌%◌}
-use mathlib.Core.Bool.{Bool, true, false, not, cond, ◌&&◌}
-use mathlib.Core.Path.{◌≡◌, refl, ap, ap₂}
-use native.Mathlib.Omega.{arith}
-use lib.Dec.{eqb}
-use borrow.Author.Tests.{eqb-true, eq-eqb}
+use Rattle.std.proofs.Common.{◌≡◌, ℕ, ◌+◌, ◌*◌, ◌/◌, ◌%◌, Bool, true, false, cond, not, ◌&&◌, eqb, refl, ap, ap₂, arith, eq-eqb, eqb-true}
 use Rattle.processor.specs.State.{user_mode, enabled, usable, permitted, fixed_fit, cet_fits, pointers_fit, in_range}
 use Rattle.processor.specs.declared.state.State.{State}
 use Rattle.instructions.specs.Permission.{write_bit, without_write, hidden, shown}

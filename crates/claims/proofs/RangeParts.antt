@@ -1,9 +1,6 @@
 -- What a state in its ranges has, field by field. Assumes nothing.
-use Prim.Native.Nat.{◌%◌, ◌^◌, ◌<◌, ◌≤◌}
-use mathlib.Core.Bool.{Bool, true, false, false≢true, ◌&&◌, ◌||◌}
-use mathlib.Core.Path.{◌≡◌, refl}
-use lib.Dec.{eqb, ltb, leb}
-use borrow.Author.Tests.{ltb-true, leb-true, eqb-true, lt-ltb, le-leb, eq-eqb}
+use Rattle.std.proofs.Common.{◌≡◌, ◌%◌, ◌^◌, ◌<◌, ◌≤◌, Bool, true, false, ◌&&◌, ◌||◌, eqb, ltb, leb, refl, ltb-true, lt-ltb, eq-eqb, eqb-true, le-leb, leb-true}
+use mathlib.Core.Bool.{false≢true}
 use Rattle.processor.specs.State.{is_long, fixed_fit, cet_fits, pointers_fit, in_range}
 use Rattle.processor.specs.declared.state.State.{State}
 

@@ -1,11 +1,6 @@
 -- A state in its ranges stays in them: over a completed instruction, and over whole runs. Assumes nothing.
-use Prim.Native.Nat.{ℕ, ◌*◌, ◌%◌, ◌^◌, ◌<◌, ◌≤◌}
-use mathlib.Core.Bool.{Bool, true, false, not, cond}
-use mathlib.Core.List.{List}
-use mathlib.Core.Path.{◌≡◌, refl, ◌∙◌}
-use native.Mathlib.Omega.{arith}
-use lib.Dec.{eqb, ltb}
-use borrow.Author.Tests.{ltb-true, leb-true, eqb-true, eqb-false, not-true, eq-eqb}
+use Rattle.std.proofs.Common.{◌≡◌, ℕ, ◌*◌, ◌%◌, ◌^◌, ◌<◌, ◌≤◌, Bool, true, false, cond, not, eqb, ltb, List, refl, ◌∙◌, arith, ltb-true, eq-eqb, eqb-true, leb-true}
+use borrow.Author.Tests.{eqb-false, not-true}
 use Rattle.numbers.specs.Numbers.{byte_count}
 use Rattle.addresses.specs.declared.address.Width.TheVariants.{Bits32}
 use Rattle.pages.specs.Pages.{Lookup}
@@ -18,14 +13,13 @@ use Rattle.processor.specs.declared.state.State.{State}
 use Rattle.saveprevssp.specs.Saveprevssp.{carry}
 use Rattle.targets.specs.Targets.{in_code, pushed}
 use Rattle.call.specs.Call.{pushes_frame}
-use Rattle.instructions.specs.Operation.{decoded}
-use Rattle.instructions.specs.Instruction.{words_fit, length_fits, in_mode1, narrow, mode_fits, fits, well_formed}
+use Rattle.instructions.specs.Instruction.{words_fit, length_fits, in_mode1, narrow, mode_fits, fits}
 use Rattle.instructions.specs.Permission.{hidden, shown}
 use Rattle.perform.specs.Codes.{framed}
 use Rattle.replay.specs.Run.{look_of, listed, after_from, built}
 use Rattle.instructions.specs.declared.instruction.Instruction.{Instruction}
 use Rattle.instructions.specs.declared.operation.Operation.{Operation}
-use Rattle.instructions.specs.declared.operation.Operation.TheVariants.{Incssp, Rstorssp, Saveprevssp, Wrss, Call, Ret, Wruss, Unknown}
+use Rattle.instructions.specs.declared.operation.Operation.TheVariants.{Incssp, Rstorssp, Saveprevssp, Wrss, Call, Ret, Wruss}
 use Rattle.claims.specs.Ranges.{StaysInRange, RunStaysInRange}
 use Rattle.claims.proofs.InstructionWalk.{rule_of, completes_at}
 use Rattle.claims.proofs.KeptAlong.{run_keeps}
@@ -156,7 +150,6 @@ module _ (look : Lookup) (bytes : List ℕ) where
       (either (Pointer s) (enabled s) _ _ (plus_fits s s.ssp (byte_count (pushed s))) (ssp_fits s))
       (either (Of4 s) (enabled s) _ _ (plus_of_4 s s.ssp (byte_count (pushed s)) (ssp_of_4 s) (size_of_4 (pushed s))) (ssp_of_4 s)))
   ends_in_range (Wruss size) i s t form is = rw is (onward s i.length s.ssp s.flags (ssp_fits s) (ssp_of_4 s))
-  ends_in_range Unknown i s t form none = absurd none
 
 -- ---- an instruction, and whole runs
 
@@ -183,11 +176,11 @@ unfolding shown
 shown_range s t = with_cet_lem t _ _ (cet_shown s.ucet t.ucet) (cet_shown s.scet t.scet)
 
 pub stays_in_range : StaysInRange
-unfolding hidden well_formed
+unfolding hidden
 stays_in_range given look i s bytes good done =
-    let end = completes_at given look i s bytes done in
-    let last = ends_in_range look bytes (decoded i.code) i (hidden s) end.1.0 end.0 end.1.1 (hidden_range s (range_parts s good)) in
-    rw end.1.2 (parts_range _ (shown_range s end.1.0 last))
+    let it = completes_at given look i s bytes done in
+    let last = ends_in_range look bytes it.of.op i (hidden s) it.end it.of.form it.ends (hidden_range s (range_parts s good)) in
+    rw it.bits_back (parts_range _ (shown_range s it.end last))
 
 pub run_stays_in_range : RunStaysInRange
 unfolding after_from

@@ -1,11 +1,6 @@
 -- RET walked: it loads the target from the ordinary stack and, where the shadow stack is enabled, the frame there, stores nothing,
 -- and moves both pointers past what it popped. Assumes nothing.
-use Prim.Native.Nat.{ℕ}
-use mathlib.Core.Bool.{true, false, not, cond}
-use mathlib.Core.List.{List}
-use mathlib.Core.Logic.{◌⊎◌, inl, inr}
-use mathlib.Core.Path.{◌≡◌, refl}
-use lib.Dec.{eqb}
+use Rattle.std.proofs.Common.{◌≡◌, ℕ, true, false, cond, not, eqb, ◌⊎◌, List, refl, inl, inr}
 use Rattle.numbers.specs.Numbers.{byte_count}
 use Rattle.accesses.specs.Access.{value}
 use Rattle.pages.specs.Pages.{Lookup}

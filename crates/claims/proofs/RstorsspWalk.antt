@@ -1,10 +1,5 @@
 -- RSTORSSP walked: it loads the token at its address, leaves the old SSP there, marked, and moves SSP there. Assumes nothing.
-use Prim.Native.Nat.{ℕ, ◌+◌, ◌%◌}
-use mathlib.Core.Bool.{true}
-use mathlib.Core.List.{List}
-use mathlib.Core.Logic.{◌⊎◌, inl, inr}
-use mathlib.Core.Path.{◌≡◌, refl}
-use lib.Dec.{eqb}
+use Rattle.std.proofs.Common.{◌≡◌, ℕ, ◌+◌, ◌%◌, true, eqb, ◌⊎◌, List, refl, inl, inr}
 use Rattle.accesses.specs.Access.{value}
 use Rattle.pages.specs.Pages.{Lookup}
 use Rattle.numbers.specs.declared.size.Size.TheVariants.{Eight}

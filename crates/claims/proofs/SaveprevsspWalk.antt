@@ -1,11 +1,6 @@
 -- SAVEPREVSSP walked: it loads the token at SSP and, where CF is set, the hole above it; it leaves a hole and a token below the old
 -- SSP that the token names, and moves SSP past what it popped. Assumes nothing.
-use Prim.Native.Nat.{ℕ, ◌+◌, ◌%◌}
-use mathlib.Core.Bool.{true, false, not, cond, ◌&&◌}
-use mathlib.Core.List.{List}
-use mathlib.Core.Logic.{◌⊎◌, inl, inr}
-use mathlib.Core.Path.{◌≡◌, refl}
-use lib.Dec.{eqb}
+use Rattle.std.proofs.Common.{◌≡◌, ℕ, ◌+◌, ◌%◌, true, false, cond, not, ◌&&◌, eqb, ◌⊎◌, List, refl, inl, inr}
 use Rattle.accesses.specs.Access.{value}
 use Rattle.pages.specs.Pages.{Lookup}
 use Rattle.accesses.specs.declared.access.Access.{Access}

@@ -1,25 +1,18 @@
 -- The public single step, taken again and again, goes where a run's single operations go. Assumes nothing.
-use Prim.Native.Nat.{ℕ, zero, suc}
-use mathlib.Core.Bool.{Bool, true, false, cond}
-use mathlib.Core.List.{List}
-use mathlib.Core.Path.{◌≡◌, refl, ◌∙◌, ap, ap₂}
-use native.Mathlib.Omega.{arith}
-use lib.ListN.{length}
+use Rattle.std.proofs.Common.{◌≡◌, ℕ, zero, suc, Bool, true, false, cond, List, length, Ok, Err, Result, refl, ap, ◌∙◌, ap₂, arith}
 use Rattle.pages.specs.Pages.{Lookup, listing}
-use Rattle.pages.specs.declared.pages.Listing.{Listing}
-use Rattle.pages.specs.declared.pages.Listing.TheVariants.{Valid, BadLength, BadKind, BadAddress, Repeated}
 use Rattle.memory.proofs.Laws.{length_written, lookup_kept}
 use Rattle.processor.specs.Prog.{Step}
 use Rattle.processor.specs.State.{in_range}
+use Rattle.answers.specs.Answer.{refusal_for}
 use Rattle.answers.specs.declared.answer.Refusal.{Refusal}
-use Rattle.answers.specs.declared.answer.Refusal.TheVariants.{Length, Kind, Address, Repeat, State as BadState, Words}
+use Rattle.answers.specs.declared.answer.Refusal.TheVariants.{State as BadState, Words}
+use Rattle.pages.specs.declared.pages.ListError.{ListError}
 use Rattle.processor.specs.declared.state.State.{State}
 use Rattle.instructions.specs.Instruction.{instruction_at}
 use Rattle.perform.specs.Exec.{InstructionSet, exec, perform}
 use Rattle.replay.specs.Run.{Input, look_of, listed, bad_words, after_pages, check_by, check, step, after_from, after, built, stepped}
 use Rattle.instructions.specs.declared.instruction.Instruction.{Instruction}
-use Rattle.replay.specs.declared.steps.Tested.{Tested}
-use Rattle.replay.specs.declared.steps.Tested.TheVariants.{Passed, Failed}
 use Rattle.claims.specs.StepByStep.{next_input, stepping, StepByStepInRange, StepByStep}
 use Rattle.claims.proofs.Counts.{unchanged, completes}
 use Rattle.claims.proofs.InstructionWalk.{performed_bytes}
@@ -28,40 +21,37 @@ use Rattle.claims.proofs.Walks.{anything, any_walks}
 
 -- ---- what passed
 
-failed_no_pass : (refusal : Refusal) → Failed refusal ≡ Passed → ⊥
-failed_no_pass refusal e = let z : ◌≡◌ {A = ℕ} 0 1 = cc in omega arith
+failed_no_pass : (refusal : Refusal) → ◌≡◌ {A = Result (Unit {0}) Refusal} (Err refusal) (Ok tt) → ⊥
+failed_no_pass refusal e = cc
 
 -- the page list was valid, and the tests after it passed
-pages_passed : (l : Listing) (rest : Tested) → after_pages l rest ≡ Passed → (l ≡ Valid) × (rest ≡ Passed)
-pages_passed Valid rest e = (refl, e)
-pages_passed BadLength rest e = absurd (failed_no_pass Length e)
-pages_passed BadKind rest e = absurd (failed_no_pass Kind e)
-pages_passed BadAddress rest e = absurd (failed_no_pass Address e)
-pages_passed Repeated rest e = absurd (failed_no_pass Repeat e)
+pages_passed : (l : Result (Unit {0}) ListError) (rest : Result (Unit {0}) Refusal) → after_pages l rest ≡ Ok tt → (l ≡ Ok tt) × (rest ≡ Ok tt)
+pages_passed (Ok x) rest e = (refl, e)
+pages_passed (Err found) rest e = absurd (failed_no_pass (refusal_for found) e)
 
 -- so a list of one instruction passes too, from any state in range
-passes_alone : (pages : List ℕ) (lent : ℕ) (good : Bool) (words : ℕ) → check_by pages lent good words ≡ Passed → check_by pages lent true 4 ≡ Passed
+passes_alone : (pages : List ℕ) (lent : ℕ) (good : Bool) (words : ℕ) → check_by pages lent good words ≡ Ok tt → check_by pages lent true 4 ≡ Ok tt
 unfolding check_by bad_words
 passes_alone pages lent good words e = rw (pages_passed (listing pages lent) _ e).0
 
 -- and the state was in range
-passed_in_range : (given : Input) → check given ≡ Passed → in_range given.state ≡ true
+passed_in_range : (given : Input) → check given ≡ Ok tt → in_range given.state ≡ true
 unfolding check check_by
 passed_in_range given passed = go (in_range given.state) (pages_passed (listing given.pages (length given.bytes)) _ passed).1
   where
-    go : (good : Bool) → cond good (cond (bad_words (length given.words)) (Failed Words) Passed) (Failed BadState) ≡ Passed → good ≡ true
+    go : (good : Bool) → cond {A = Result (Unit {0}) Refusal} good (cond (bad_words (length given.words)) (Err Words) (Ok tt)) (Err BadState) ≡ Ok tt → good ≡ true
     go true e = refl
     go false e = absurd (failed_no_pass BadState e)
 
 -- ---- one step
 
-passed_step : (set : InstructionSet) (one : Input) → check one ≡ Passed → step set one ≡ perform set (look_of one) (listed one 0) one.state one.bytes
+passed_step : (set : InstructionSet) (one : Input) → check one ≡ Ok tt → step set one ≡ perform set (look_of one) (listed one 0) one.state one.bytes
 unfolding step
 passed_step set one e = rw e
 
 -- over what was left of a valid input, from a state in range, it is a single operation
-module _ (given : Input) (before : Step) (i : Instruction) (passed : check given ≡ Passed) (kept : length before.bytes ≡ length given.bytes) (good : in_range before.state ≡ true) where
-  next_passes : check (next_input given before i) ≡ Passed
+module _ (given : Input) (before : Step) (i : Instruction) (passed : check given ≡ Ok tt) (kept : length before.bytes ≡ length given.bytes) (good : in_range before.state ≡ true) where
+  next_passes : check (next_input given before i) ≡ Ok tt
   unfolding check
   next_passes =
       ap₂ (λ (lent : ℕ) (t : Bool). check_by given.pages lent t 4) kept good

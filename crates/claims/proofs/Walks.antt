@@ -6,19 +6,14 @@
 --     weaker_walks                              a rule that says less
 --     walked                                    how a program ends: at an end, at a stop, or at a load or a store that cannot be done
 --     bytes_kept                                what every store keeps, the bytes that are left have
-use Prim.Native.Nat.{ℕ}
-use mathlib.Core.Bool.{Bool, true, false, cond}
-use mathlib.Core.List.{List}
-use mathlib.Core.Path.{◌≡◌, refl}
+use Rattle.std.proofs.Common.{◌≡◌, ℕ, Bool, true, false, cond, List, Ok, Err, Result, refl}
 use Rattle.accesses.specs.Access.{probe, value, written}
 use Rattle.pages.specs.Pages.{Lookup}
 use Rattle.accesses.specs.declared.access.Access.{Access}
 use Rattle.accesses.specs.declared.reach.Failure.{Failure}
-use Rattle.accesses.specs.declared.reach.Reach.{Reach}
-use Rattle.accesses.specs.declared.reach.Reach.TheVariants.{Ready, Blocked}
 use Rattle.answers.specs.Blame.{blame}
 use Rattle.answers.specs.declared.answer.Fault.{Fault}
-use Rattle.processor.specs.Prog.{Prog, done, stop, fetch, put, ◌>>=◌, ◌>>◌, load, touch, store, unless, only_if, Result, ended, broken, on_reach, interp}
+use Rattle.processor.specs.Prog.{Prog, done, stop, fetch, put, ◌>>=◌, ◌>>◌, load, touch, store, unless, only_if, Ending, ended, broken, on_reach, interp}
 
 -- what is said of a program: of the accesses that it loads, the faults that it stops with, the accesses that it stores with their values,
 -- and of what it ends with
@@ -120,19 +115,19 @@ pub data Breaks {A : Type 0} (rule : Rule A) : Fault → Type 0 where
   at_store : (a : Access) (v : ℕ) (failure : Failure) → rule.stores a v → Breaks rule (blame a failure)
 
 -- the bytes that are left: those from before where it broke off
-abbrev pub left : {A : Type 0} → Result A → List ℕ → List ℕ
+abbrev pub left : {A : Type 0} → Ending A → List ℕ → List ℕ
 left (ended x after) before = after
 left (broken fault) before = before
 
-abbrev pub Walked : {A : Type 0} → Rule A → Result A → Type 0
+abbrev pub Walked : {A : Type 0} → Rule A → Ending A → Type 0
 Walked rule (ended x left) = rule.ends x
 Walked rule (broken fault) = Breaks rule fault
 
 module _ {A : Type 0} (look : Lookup) (rule : Rule A) where
   -- an access, and what comes after it
-  reached : (a : Access) (r : Reach) (go : Result A) → ((failure : Failure) → Breaks rule (blame a failure)) → Walked rule go → Walked rule (on_reach a r go)
-  reached a Ready go fails rest = rest
-  reached a (Blocked failure) go fails rest = fails failure
+  reached : (a : Access) (r : Result (Unit {0}) Failure) (go : Ending A) → ((failure : Failure) → Breaks rule (blame a failure)) → Walked rule go → Walked rule (on_reach a r go)
+  reached a (Ok x) go fails rest = rest
+  reached a (Err failure) go fails rest = fails failure
 
   pub walked : (p : Prog A) (bytes : List ℕ) → Walks look rule p bytes → Walked rule (interp look p bytes)
   unfolding Walks interp
@@ -144,11 +139,11 @@ module _ {A : Type 0} (look : Lookup) (rule : Rule A) where
   -- `before` are the bytes that are left where the program breaks off
   module _ (Q : List ℕ → Type 0) (before : List ℕ) (start : Q before) where
     -- an access, and what comes after it if it can be done
-    went_on : (a : Access) (r : Reach) (go : Result A) → probe look a ≡ r → (probe look a ≡ Ready → Q (left go before)) → Q (left (on_reach a r go) before)
-    went_on a Ready go e rest = rest e
-    went_on a (Blocked failure) go e rest = start
+    went_on : (a : Access) (r : Result (Unit {0}) Failure) (go : Ending A) → probe look a ≡ r → (probe look a ≡ Ok tt → Q (left go before)) → Q (left (on_reach a r go) before)
+    went_on a (Ok x) go e rest = rest e
+    went_on a (Err failure) go e rest = start
 
-    pub bytes_kept : ((a : Access) (v : ℕ) (bytes : List ℕ) → rule.stores a v → probe look a ≡ Ready → Q bytes → Q (written look a v bytes))
+    pub bytes_kept : ((a : Access) (v : ℕ) (bytes : List ℕ) → rule.stores a v → probe look a ≡ Ok tt → Q bytes → Q (written look a v bytes))
         → (p : Prog A) (bytes : List ℕ) → Walks look rule p bytes → Q bytes → Q (left (interp look p bytes) before)
     unfolding Walks interp
     bytes_kept keeps (done x) bytes walk now = now

@@ -1,9 +1,5 @@
 -- WRUSS walked: it stores once, at its address on a user's shadow stack, and moves IP alone. Assumes nothing.
-use Prim.Native.Nat.{ℕ, ◌%◌}
-use mathlib.Core.List.{List}
-use mathlib.Core.Logic.{◌⊎◌, inl, inr}
-use mathlib.Core.Path.{◌≡◌, refl}
-use lib.Dec.{eqb}
+use Rattle.std.proofs.Common.{◌≡◌, ℕ, ◌%◌, eqb, ◌⊎◌, List, refl, inl, inr}
 use Rattle.numbers.specs.Numbers.{byte_count}
 use Rattle.pages.specs.Pages.{Lookup}
 use Rattle.numbers.specs.declared.size.Size.{Size}

@@ -1,6 +1,6 @@
 -- A relative CALL with displacement 0, which calls the next instruction (the papers: the next line), does not use the shadow stack
 -- (docs/RULES.md, "The operations", near CALL). Assumes nothing.
-use Rattle.std.specs.Prelude.{ℕ, ◌≡◌, Bool, false, List, length}
+use Rattle.std.specs.Prelude.{ℕ, ◌≡◌, Bool, false, Option, Some, List, length}
 use Rattle.memory.specs.Extends.{Places, cell, is_listed, is_kind}
 use Rattle.pages.specs.Pages.{Lookup, ordinary}
 use Rattle.pages.specs.declared.pages.Spot.{Spot}
@@ -16,12 +16,12 @@ use Rattle.instructions.specs.declared.operation.Target.TheVariants.{Relative}
 
 -- such a call, by its words
 abbrev pub CallsNext : Instruction → Type 0
-CallsNext i = (decoded i.code ≡ Call Relative) × (i.a ≡ 0)
+CallsNext i = (decoded i.code ≡ Some (Call Relative)) × (i.a ≡ 0)
 
 -- ---- two memories that differ in shadow pages
 
 -- an address leads to an ordinary page
-abbrev pub is_ordinary : Spot → Bool
+abbrev pub is_ordinary : Option Spot → Bool
 is_ordinary = is_kind ordinary
 
 -- The pages have the same addresses, and the same ones are ordinary. Where they stand in a list and what they hold is free; a shadow page of

@@ -1,5 +1,5 @@
 -- Demand 1: how a run ends, and what it leaves. Assumes nothing.
-use Rattle.std.specs.Prelude.{ℕ, suc, ◌≤◌, ◌<◌, ◌≡◌, List}
+use Rattle.std.specs.Prelude.{ℕ, suc, ◌≤◌, ◌<◌, ◌≡◌, List, Ok, Err}
 use Rattle.pages.specs.Pages.{Lookup}
 use Rattle.answers.specs.declared.answer.Answer.{Answer}
 use Rattle.answers.specs.declared.answer.Answer.TheVariants.{Completed, Refused, Faulted}
@@ -9,12 +9,11 @@ use Rattle.instructions.specs.Instruction.{alone}
 use Rattle.perform.specs.Exec.{InstructionSet, perform}
 use Rattle.replay.specs.Run.{Input, listed_count, with_words, check, step, Run, run, after}
 use Rattle.instructions.specs.declared.instruction.Instruction.{Instruction}
-use Rattle.replay.specs.declared.steps.Tested.TheVariants.{Passed, Failed}
 
 -- a refusal given before any step gives all back as it was handed in, with count 0
 abbrev pub RefusedBefore : Type 0
 RefusedBefore = (set : InstructionSet) (given : Input) (refusal : Refusal)
-    → check given ≡ Failed refusal
+    → check given ≡ Err refusal
     → run set given ≡ record { count = 0; answer = Refused refusal; state = given.state; bytes = given.bytes }
 
 -- an instruction that is refused or faults changes no register and no byte
@@ -38,7 +37,7 @@ pub record Counted (set : InstructionSet) (given : Input) (r : Run) : Type 0 whe
 -- a run that is not refused before its first step stops at the first refusal or fault and nowhere earlier, and its count is tied to
 -- the state and the bytes after that many single operations
 abbrev pub CountTied : Type 0
-CountTied = (set : InstructionSet) (given : Input) → check given ≡ Passed → Counted set given (run set given)
+CountTied = (set : InstructionSet) (given : Input) → check given ≡ Ok tt → Counted set given (run set given)
 
 -- every instruction of a list completes
 abbrev pub AllComplete : InstructionSet → Input → Type 0
@@ -47,8 +46,8 @@ AllComplete set given = (j : ℕ) → j < listed_count given → (after set give
 -- the answer is 0 exactly when no refusal is given before any step and every instruction listed has completed
 abbrev pub CompletedExactly : Type 0
 CompletedExactly = (set : InstructionSet) (given : Input)
-    → ((run set given).answer ≡ Completed → (check given ≡ Passed) × AllComplete set given)
-    × (check given ≡ Passed → AllComplete set given → (run set given).answer ≡ Completed)
+    → ((run set given).answer ≡ Completed → (check given ≡ Ok tt) × AllComplete set given)
+    × (check given ≡ Ok tt → AllComplete set given → (run set given).answer ≡ Completed)
 
 -- one instruction by itself is a run of one
 abbrev pub StepIsRun : Type 0
@@ -64,4 +63,4 @@ steps_taken (Faulted fault) count = suc count
 
 -- a run of n instructions takes at most n steps (and one that is refused before its first takes none: `RefusedBefore`)
 abbrev pub AtMostN : Type 0
-AtMostN = (set : InstructionSet) (given : Input) → check given ≡ Passed → steps_taken (run set given).answer (run set given).count ≤ listed_count given
+AtMostN = (set : InstructionSet) (given : Input) → check given ≡ Ok tt → steps_taken (run set given).answer (run set given).count ≤ listed_count given

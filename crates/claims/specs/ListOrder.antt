@@ -1,8 +1,7 @@
 -- The order of a page list has no meaning of its own (docs/RULES.md, "Pages"). Assumes nothing.
-use Rattle.std.specs.Prelude.{ℕ, ◌≡◌, List, length}
+use Rattle.std.specs.Prelude.{ℕ, ◌≡◌, List, length, Ok}
 use Rattle.pages.specs.Pages.{listing}
 use Rattle.memory.specs.Extends.{HoldsPages}
-use Rattle.pages.specs.declared.pages.Listing.TheVariants.{Valid}
 use Rattle.perform.specs.Exec.{InstructionSet}
 use Rattle.replay.specs.Run.{Input, with_pages, Run, run}
 
@@ -17,8 +16,8 @@ pub record SameEnd (pages₁ pages₂ : List ℕ) (r₁ r₂ : Run) : Type 0 whe
 -- the address that it names.
 abbrev pub OrderFree : Type 0
 OrderFree = (set : InstructionSet) (given : Input) (pages₂ bytes₂ : List ℕ)
-    → listing given.pages (length given.bytes) ≡ Valid
-    → listing pages₂ (length bytes₂) ≡ Valid
+    → listing given.pages (length given.bytes) ≡ Ok tt
+    → listing pages₂ (length bytes₂) ≡ Ok tt
     → HoldsPages given.pages given.bytes pages₂ bytes₂
     → HoldsPages pages₂ bytes₂ given.pages given.bytes
     → SameEnd given.pages pages₂ (run set given) (run set (with_pages given pages₂ bytes₂))

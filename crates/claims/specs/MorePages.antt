@@ -1,8 +1,7 @@
 -- Demand 3 for page lists (docs/RULES.md, "Two runs side by side"): more memory never alters an answer already given. Assumes nothing.
-use Rattle.std.specs.Prelude.{ℕ, ◌≤◌, ◌≡◌, Bool, true, false, List, length, eqb}
+use Rattle.std.specs.Prelude.{ℕ, ◌≤◌, ◌≡◌, Bool, true, false, List, length, eqb, Ok}
 use Rattle.pages.specs.Pages.{listing}
 use Rattle.memory.specs.Extends.{HoldsPages, Untouched}
-use Rattle.pages.specs.declared.pages.Listing.TheVariants.{Valid}
 use Rattle.answers.specs.Answer.{report_of}
 use Rattle.processor.specs.Prog.{Step}
 use Rattle.answers.specs.declared.answer.Answer.{Answer}
@@ -36,7 +35,7 @@ pub record GoesAsFar (pages₁ pages₂ lent₂ : List ℕ) (r₁ r₂ : Run) (t
 -- handed back is what stood after its count of single operations (`CountTied`).
 abbrev pub MorePages : Type 0
 MorePages = (set : InstructionSet) (given : Input) (pages₂ bytes₂ : List ℕ)
-    → listing given.pages (length given.bytes) ≡ Valid → listing pages₂ (length bytes₂) ≡ Valid → HoldsPages given.pages given.bytes pages₂ bytes₂
+    → listing given.pages (length given.bytes) ≡ Ok tt → listing pages₂ (length bytes₂) ≡ Ok tt → HoldsPages given.pages given.bytes pages₂ bytes₂
     → let more : Input = with_pages given pages₂ bytes₂ in
     let r₁ : Run = run set given in
     let r₂ : Run = run set more in

@@ -1,13 +1,11 @@
 -- What a descriptor says, and where a selector leads (docs/RULES.md, "The descriptor table"). Assumes nothing.
-use Rattle.std.specs.Prelude.{ℕ, ◌+◌, ◌*◌, ◌/◌, ◌%◌, ◌^◌, Bool, cond, List, eqb, leb}
+use Rattle.std.specs.Prelude.{ℕ, ◌+◌, ◌*◌, ◌/◌, ◌%◌, ◌^◌, Bool, cond, List, eqb, leb, Option, Some, None, Result, Ok, Err}
 use Rattle.numbers.specs.Numbers.{held}
-use Rattle.numbers.specs.declared.loads.Held.{Held}
-use Rattle.numbers.specs.declared.loads.Held.TheVariants.{Number, Outside as PastEnd}
 use Rattle.descriptors.specs.declared.Class.{Class}
 use Rattle.descriptors.specs.declared.Class.TheVariants.{Code, Gate, Other}
 use Rattle.descriptors.specs.declared.Descriptor.{Descriptor}
-use Rattle.descriptors.specs.declared.Selected.{Selected}
-use Rattle.descriptors.specs.declared.Selected.TheVariants.{Null, Local, Outside, Found}
+use Rattle.descriptors.specs.declared.Unselected.{Unselected}
+use Rattle.descriptors.specs.declared.Unselected.TheVariants.{Null, Local, Outside}
 
 -- ---- a descriptor, as one number of 64 bits
 
@@ -58,13 +56,13 @@ abbrev pub rpl_of : ℕ → ℕ
 rpl_of selector = selector % 4
 
 -- the 8 bytes of its descriptor, if they lie inside the table
-abbrev pub found : Held → Selected
-found (Number number) = Found (descriptor_of number)
-found PastEnd = Outside
+abbrev pub found : Option ℕ → Result Descriptor Unselected
+found (Some number) = Ok (descriptor_of number)
+found None = Err Outside
 
 -- Where it leads: null with bits 15 to 2 all 0; to the local table with bit 2 set; else to the descriptor whose index is bits 15 to 3.
-unfoldable pub selected : List ℕ → ℕ → Selected
+unfoldable pub selected : List ℕ → ℕ → Result Descriptor Unselected
 selected table selector =
-    cond (eqb (selector / 4) 0) Null
-    (cond (eqb (selector / 4 % 2) 1) Local
+    cond (eqb (selector / 4) 0) (Err Null)
+    (cond (eqb (selector / 4 % 2) 1) (Err Local)
     (found (held table (selector / 8 * 8) 8)))

@@ -1,31 +1,21 @@
--- The words of a state, the call as the code has it, and a bound on vectors. Assumes nothing.
-use Prim.Native.Nat.{ℕ, zero, suc, ◌+◌, ◌≤◌, ◌<◌}
-use mathlib.Core.Bool.{Bool, false}
-use mathlib.Core.List.{List, [], ◌∷◌}
-use mathlib.Core.Path.{◌≡◌, refl, sym, ◌∙◌}
-use native.Mathlib.Omega.{arith}
-use lib.ListN.{length, get_or, drop, drop_of_length-le}
+-- The words of a state, and the call as the code has it. Assumes nothing.
+use Rattle.std.proofs.Common.{ℕ, zero, suc, ◌+◌, ◌≤◌, ◌<◌, Bool, false, List, [], ◌∷◌, length, get_or, drop, ◌≡◌, refl, sym, ◌∙◌, arith, Result, Ok, Err, Some, None}
+use lib.ListN.{drop_of_length-le}
 use lib.Seq.{drop-cons}
 use borrow.Author.Tests.{lt-ltb, le-ltb}
 use Rattle.numbers.specs.Buffers.{laid_if}
 use Rattle.numbers.proofs.Laws.{laid_if_lem, laid_whole}
 use Rattle.pages.specs.Pages.{listing}
-use Rattle.pages.specs.declared.pages.Listing.{Listing}
-use Rattle.pages.specs.declared.pages.Listing.TheVariants.{Valid, BadLength, BadKind, BadAddress, Repeated}
-use Rattle.answers.specs.Answer.{vector_number}
+use Rattle.pages.specs.declared.pages.ListError.{ListError}
+use Rattle.answers.specs.Answer.{refusal_for}
 use Rattle.answers.specs.declared.answer.Refusal.{Refusal}
-use Rattle.answers.specs.declared.answer.Refusal.TheVariants.{Length, Kind, Address, Repeat, State as BadState}
-use Rattle.answers.specs.declared.answer.Vector.{Vector}
-use Rattle.answers.specs.declared.answer.Vector.TheVariants.{InvalidOpcode, Stack, Protection, Page, Control}
+use Rattle.answers.specs.declared.answer.Refusal.TheVariants.{State as BadState}
 use Rattle.processor.specs.State.{in_range}
 use Rattle.processor.specs.Layout.{fields, state_of, words_of}
 use Rattle.state_words.specs.Formed.{formed}
 use Rattle.processor.specs.declared.state.State.{State}
-use Rattle.state_words.specs.declared.Formed.TheVariants.{Whole, NoState}
 use Rattle.state_words.proofs.Laws.{formed_whole, good_whole, good_none}
 use Rattle.replay.specs.Run.{input_of, after_pages, check_by, check, run, replayed}
-use Rattle.replay.specs.declared.steps.Tested.{Tested}
-use Rattle.replay.specs.declared.steps.Tested.TheVariants.{Passed, Failed}
 use Rattle.driftpocket.specs.Crossing.{report_length, Crossing, unreported, by_tests, ran, crossed}
 
 -- ---- the words of a state
@@ -45,7 +35,7 @@ unfolding state_of elements
 same_words words ten = elements_rest words 0 fields (omega arith)
 
 -- a buffer of ten words holds the words of the state that is written there
-pub written_words : (state : List ℕ) (start s : State) → formed state ≡ Whole start → laid_if state 0 (words_of s) ≡ words_of s
+pub written_words : (state : List ℕ) (start s : State) → formed state ≡ Some start → laid_if state 0 (words_of s) ≡ words_of s
 written_words state start s whole =
     let ten = (formed_whole state start whole).0 in
     laid_if_lem state 0 (words_of s) (omega arith) ∙ laid_whole (words_of s) state ten
@@ -53,25 +43,22 @@ written_words state start s whole =
 -- ---- the call, as the code has it: with no state, with a report that is too short, and run
 
 -- the tests are not passed where there is no state
-fails : (found : Listing) → (refusal : Refusal) × (after_pages found (Failed BadState) ≡ Failed refusal)
-fails Valid = (BadState, refl)
-fails BadLength = (Length, refl)
-fails BadKind = (Kind, refl)
-fails BadAddress = (Address, refl)
-fails Repeated = (Repeat, refl)
+fails : (found : Result (Unit {0}) ListError) → (refusal : Refusal) × (after_pages found (Err BadState) ≡ Err refusal)
+fails (Ok x) = (BadState, refl)
+fails (Err error) = (refusal_for error, refl)
 
 module _ (state pages bytes words report : List ℕ) where
-  abbrev tests : Bool → Tested
+  abbrev tests : Bool → Result (Unit {0}) Refusal
   tests good = check_by pages (length bytes) good (length words)
 
   abbrev whole_run : Crossing
   whole_run = ran report (replayed (input_of (state_of state) pages bytes words))
 
-  pub crossed_never : formed state ≡ NoState → by_tests (tests false) state bytes report (unreported state bytes report) ≡ crossed state pages bytes words report
+  pub crossed_never : formed state ≡ None → by_tests (tests false) state bytes report (unreported state bytes report) ≡ crossed state pages bytes words report
   unfolding crossed check_by
   crossed_never none = rw (good_none state none, (fails (listing pages (length bytes))).1)
 
-  module _ (start : State) (whole : formed state ≡ Whole start) where
+  module _ (start : State) (whole : formed state ≡ Some start) where
     pub crossed_short : length report < report_length
         → by_tests (tests (in_range start)) state bytes report (unreported state bytes report) ≡ crossed state pages bytes words report
     unfolding crossed
@@ -84,15 +71,6 @@ module _ (state pages bytes words report : List ℕ) where
         let (ten, same) = formed_whole state start whole in
         rw (same, good_whole state ten, le-ltb _ _ room) (go ten (tests (in_range (state_of state))) refl)
       where
-        go : length state ≡ fields → (tested : Tested) → tests (in_range (state_of state)) ≡ tested → whole_run ≡ by_tests tested state bytes report whole_run
-        go ten Passed e = refl
-        go ten (Failed refusal) e = rw (e, same_words state ten)
-
--- ---- vectors
-
-pub small_vector : (vector : Vector) → vector_number vector ≤ 21
-small_vector InvalidOpcode = omega arith
-small_vector Stack = omega arith
-small_vector Protection = omega arith
-small_vector Page = omega arith
-small_vector Control = omega arith
+        go : length state ≡ fields → (tested : Result (Unit {0}) Refusal) → tests (in_range (state_of state)) ≡ tested → whole_run ≡ by_tests tested state bytes report whole_run
+        go ten (Ok x) e = refl
+        go ten (Err refusal) e = rw (e, same_words state ten)

@@ -1,3 +1,3 @@
--- The words of a state, the call as the code has it, and a bound on vectors.
+-- The words of a state, and the call as the code has it.
 
 mod Laws

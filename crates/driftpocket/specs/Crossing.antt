@@ -1,15 +1,14 @@
 -- The layout of what crosses the C interface, and what a call leaves in every buffer. Assumes nothing.
-use Rattle.std.specs.Prelude.{ℕ, ◌+◌, cond, List, [], ◌∷◌, length, ltb}
+use Rattle.std.specs.Prelude.{ℕ, ◌+◌, cond, List, [], ◌∷◌, length, ltb, Result, Ok, Err}
 use Rattle.numbers.specs.Buffers.{laid_if}
 use Rattle.answers.specs.Answer.{vector_number, refusal_number, room_number, report_of}
 use Rattle.answers.specs.declared.answer.Answer.{Answer}
 use Rattle.answers.specs.declared.answer.Answer.TheVariants.{Completed, Refused, Faulted}
+use Rattle.answers.specs.declared.answer.Refusal.{Refusal}
 use Rattle.answers.specs.declared.answer.Report.{Report}
 use Rattle.processor.specs.Layout.{state_of, words_of}
 use Rattle.state_words.specs.Formed.{good_state}
 use Rattle.replay.specs.Run.{Run, input_of, check_by, replayed}
-use Rattle.replay.specs.declared.steps.Tested.{Tested}
-use Rattle.replay.specs.declared.steps.Tested.TheVariants.{Passed, Failed}
 
 -- ---- layout
 
@@ -47,9 +46,9 @@ abbrev pub unreported : List ℕ → List ℕ → List ℕ → Crossing
 unreported state bytes report = record { number = room_number; state = state; bytes = bytes; report = report }
 
 -- refused by the tests before any step, or whatever comes after them
-abbrev pub by_tests : Tested → List ℕ → List ℕ → List ℕ → Crossing → Crossing
-by_tests Passed state bytes report rest = rest
-by_tests (Failed refusal) state bytes report rest = answered state bytes report 0 (Refused refusal)
+abbrev pub by_tests : Result (Unit {0}) Refusal → List ℕ → List ℕ → List ℕ → Crossing → Crossing
+by_tests (Ok x) state bytes report rest = rest
+by_tests (Err refusal) state bytes report rest = answered state bytes report 0 (Refused refusal)
 
 -- The whole call: refusals 1 to 5 and 7, where a state of another length is a state out of range; then 8, where the report is too short;
 -- then the run.

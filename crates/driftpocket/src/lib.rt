@@ -8,10 +8,8 @@ ghost use Rattle.answers.specs.Answer.{report_of};
 ghost use Rattle.driftpocket.specs.Crossing.{report_words, number_of as number_for, unreported, by_tests, crossed};
 
 use answers::NO_ROOM;
-use numbers::copy_words;
-use processor::Answer;
-use replay::Tested;
-use state_words::Formed;
+use numbers::copy;
+use processor::{Answer, FIELDS, Refusal, Report};
 
 // How many words a report has.
 const REPORT: usize = 5;
@@ -20,7 +18,7 @@ const REPORT: usize = 5;
 fn write_report(done: usize, answer: Answer, report: &mut [u64])
     ensures { report.new ≡ laid_if report.old 0 (report_words done (report_of answer)) }
 {
-    let numbers = answer.report();
+    let numbers = Report::from(answer);
     let words = [
         done as u64,
         numbers.refusal,
@@ -28,34 +26,31 @@ fn write_report(done: usize, answer: Answer, report: &mut [u64])
         numbers.code,
         numbers.address,
     ];
-    copy_words(&words, report, 0);
+    copy(&words, report, 0);
 }
 
-// What is returned for an answer.
+// What is returned for an answer: a function and no `From`, since answer and number are both types of other crates.
 fn number(answer: Answer) -> u64
     ensures { result ≡ number_for answer }
 {
     match answer {
         Answer::Completed => 0,
-        Answer::Refused(refusal) => refusal.number(),
-        Answer::Faulted(fault) => {
-            let vector = fault.vector;
-            256 + vector.number()
-        }
+        Answer::Refused(refusal) => u64::from(refusal),
+        Answer::Faulted(fault) => 256 + u64::from(fault.vector),
     }
 }
 
 // A call that runs nothing: the refusal of the tests, or 8 where they are passed.
-fn refuse(tested: Tested, report: &mut [u64]) -> u64
+fn refuse(tested: Result<(), Refusal>, report: &mut [u64]) -> u64
     ensures { (state bytes : List ℕ) → record { number = result; state = state; bytes = bytes; report = report.new }
         ≡ by_tests tested state bytes report.old (unreported state bytes report.old) }
 {
     match tested {
-        Tested::Failed(refusal) => {
+        Err(refusal) => {
             write_report(0, Answer::Refused(refusal), report);
-            refusal.number()
+            u64::from(refusal)
         }
-        Tested::Passed => NO_ROOM,
+        Ok(()) => NO_ROOM,
     }
 }
 
@@ -73,19 +68,16 @@ pub extern "C" fn driftpocket_run(
     ensures { record { number = result; state = state.new; bytes = bytes.new; report = report.new }
         ≡ crossed state.old pages.now bytes.old words.now report.old }
 {
-    let Formed::Whole(start) = state_words::state_of(state) else {
+    let Some(start) = state_words::state_of(state) else {
         let tested = replay::check(pages, bytes.len(), false, words.len());
         return refuse(tested, report);
     };
     if report.len() < REPORT {
-        let good = start.in_range();
-        let tested = replay::check(pages, bytes.len(), good, words.len());
+        let tested = replay::check(pages, bytes.len(), start.in_range(), words.len());
         return refuse(tested, report);
     }
     let replayed = replay::run(start, pages, bytes, words);
-    let answer = replayed.answer;
-    let fields = replayed.state.words();
-    copy_words(&fields, state, 0);
-    write_report(replayed.count, answer, report);
-    number(answer)
+    copy(&<[u64; FIELDS]>::from(replayed.state), state, 0);
+    write_report(replayed.count, replayed.answer, report);
+    number(replayed.answer)
 }

@@ -1,16 +1,16 @@
 -- What the two calls on sheets return through the C interface (include/driftpocket.h), and what every buffer holds after them. Assumes
 -- nothing.
-use Rattle.std.specs.Prelude.{ℕ, cond, List, [], ◌∷◌, length, eqb, ltb}
+use Rattle.std.specs.Prelude.{ℕ, cond, List, [], ◌∷◌, length, eqb, ltb, Result, Ok, Err}
 use Rattle.numbers.specs.Buffers.{laid}
 use Rattle.answers.specs.Answer.{room_number}
 use Rattle.sheet.specs.Lent.{Buffers}
 use Rattle.sheet_read.specs.Reads.{read_number, Read, reads}
 use Rattle.sheet_read.specs.declared.buffers.Sizes.{Sizes}
-use Rattle.sheet_read.specs.declared.buffers.Reading.{Reading}
-use Rattle.sheet_read.specs.declared.buffers.Reading.TheVariants.{Done as ReadDone, NoSheet, Refused as ReadRefused, TooLong as ReadTooLong}
+use Rattle.sheet_read.specs.declared.buffers.ReadError.{ReadError}
+use Rattle.sheet_read.specs.declared.buffers.ReadError.TheVariants.{NoSheet, Refused as ReadRefused, TooLong as ReadTooLong}
 use Rattle.sheet_write.specs.Writes.{write_number, Written, writes}
-use Rattle.sheet_write.specs.declared.text.Writing.{Writing}
-use Rattle.sheet_write.specs.declared.text.Writing.TheVariants.{Done as WriteDone, Refused as WriteRefused, TooLong as WriteTooLong}
+use Rattle.sheet_write.specs.declared.text.WriteError.{WriteError}
+use Rattle.sheet_write.specs.declared.text.WriteError.TheVariants.{Refused as WriteRefused, TooLong as WriteTooLong}
 
 -- what is returned with a report that is too short: the refusal, and 8 where there is none
 abbrev pub or_no_room : ℕ → ℕ
@@ -23,22 +23,22 @@ abbrev pub size_words : Sizes → List ℕ
 size_words sizes = sizes.pages ∷ sizes.bytes ∷ sizes.words ∷ []
 
 -- what a read's report says behind the refusal: a line, and the three sizes
-abbrev pub read_facts : Reading → List ℕ
-read_facts (ReadDone sizes) = 0 ∷ size_words sizes
-read_facts (NoSheet line) = line ∷ 0 ∷ 0 ∷ 0 ∷ []
-read_facts (ReadRefused refusal) = 0 ∷ 0 ∷ 0 ∷ 0 ∷ []
-read_facts (ReadTooLong sizes) = 0 ∷ size_words sizes
+abbrev pub read_facts : Result Sizes ReadError → List ℕ
+read_facts (Ok sizes) = 0 ∷ size_words sizes
+read_facts (Err (NoSheet line)) = line ∷ 0 ∷ 0 ∷ 0 ∷ []
+read_facts (Err (ReadRefused refusal)) = 0 ∷ 0 ∷ 0 ∷ 0 ∷ []
+read_facts (Err (ReadTooLong sizes)) = 0 ∷ size_words sizes
 
-abbrev pub read_report : Reading → List ℕ
+abbrev pub read_report : Result Sizes ReadError → List ℕ
 read_report answer = read_number answer ∷ read_facts answer
 
 -- and a write's: how long the text is, or would be
-abbrev pub write_fact : Writing → ℕ
-write_fact (WriteDone long) = long
-write_fact (WriteRefused refusal) = 0
-write_fact (WriteTooLong long) = long
+abbrev pub write_fact : Result ℕ WriteError → ℕ
+write_fact (Ok long) = long
+write_fact (Err (WriteRefused refusal)) = 0
+write_fact (Err (WriteTooLong long)) = long
 
-abbrev pub write_report : Writing → List ℕ
+abbrev pub write_report : Result ℕ WriteError → List ℕ
 write_report answer = write_number answer ∷ write_fact answer ∷ []
 
 -- the words of each report

@@ -6,9 +6,10 @@ ghost use Rattle.sheet_read.specs.Reads.{reads};
 ghost use Rattle.driftpocket_sheet.specs.Crossing.{or_no_room, nowhere, size_words, read_report, write_report, crossed_read, crossed_write};
 
 use answers::{NO_ROOM, NO_SHEET};
-use numbers::copy_words;
-use sheet_read::{Reading, Sizes};
-use sheet_write::Writing;
+use numbers::copy;
+use sheet::Parts;
+use sheet_read::{ReadError, Sizes};
+use sheet_write::WriteError;
 
 // How many words the report of a read and of a write has.
 const READ_REPORT: usize = 5;
@@ -26,30 +27,34 @@ fn or_no_room(number: u64) -> u64
 fn sized(refusal: u64, sizes: Sizes) -> [u64; READ_REPORT]
     ensures { result ≡ refusal ∷ 0 ∷ size_words sizes }
 {
-    let pages = sizes.pages as u64;
-    let bytes = sizes.bytes as u64;
-    let words = sizes.words as u64;
-    [refusal, 0, pages, bytes, words]
+    [
+        refusal,
+        0,
+        sizes.pages as u64,
+        sizes.bytes as u64,
+        sizes.words as u64,
+    ]
 }
 
-fn read_report(answer: Reading) -> [u64; READ_REPORT]
+// What is reported of a read, and of a write: functions and no `From`, since both sides are types of other crates.
+fn read_report(answer: Result<Sizes, ReadError>) -> [u64; READ_REPORT]
     ensures { result ≡ read_report answer }
 {
     match answer {
-        Reading::Done(sizes) => sized(0, sizes),
-        Reading::NoSheet(line) => [NO_SHEET, line as u64, 0, 0, 0],
-        Reading::Refused(refusal) => [refusal.number(), 0, 0, 0, 0],
-        Reading::TooLong(sizes) => sized(NO_ROOM, sizes),
+        Ok(sizes) => sized(0, sizes),
+        Err(ReadError::NoSheet(line)) => [NO_SHEET, line as u64, 0, 0, 0],
+        Err(ReadError::Refused(refusal)) => [refusal.into(), 0, 0, 0, 0],
+        Err(ReadError::TooLong(sizes)) => sized(NO_ROOM, sizes),
     }
 }
 
-fn write_report(answer: Writing) -> [u64; WRITE_REPORT]
+fn write_report(answer: Result<usize, WriteError>) -> [u64; WRITE_REPORT]
     ensures { result ≡ write_report answer }
 {
     match answer {
-        Writing::Done(long) => [0, long as u64],
-        Writing::Refused(refusal) => [refusal.number(), 0],
-        Writing::TooLong(long) => [NO_ROOM, long as u64],
+        Ok(long) => [0, long as u64],
+        Err(WriteError::Refused(refusal)) => [refusal.into(), 0],
+        Err(WriteError::TooLong(long)) => [NO_ROOM, long as u64],
     }
 }
 
@@ -57,15 +62,12 @@ fn write_report(answer: Writing) -> [u64; WRITE_REPORT]
 fn read_nowhere(text: &[u8]) -> [u64; READ_REPORT]
     ensures { result ≡ read_report (reads text.now nowhere).answer }
 {
-    let mut state: [u64; 0] = [];
-    let mut pages: [u64; 0] = [];
-    let mut bytes: [u8; 0] = [];
-    let mut words: [u64; 0] = [];
-    read_report(sheet_read::read(text, &mut state, &mut pages, &mut bytes, &mut words))
+    read_report(sheet_read::read(text, &mut [], &mut [], &mut [], &mut []))
 }
 
 // Reads a sheet: 0, or the refusal, 8 last of all, also where `report` is too short; then nothing is written. `report` gets refusal, line,
 // and the numbers of pages, bytes and words.
+#[tactic(auto, unfolding(crate::specs::Crossing::crossed_read), using(crate::proofs::Laws::read_short, crate::proofs::Laws::read_room))]
 #[unsafe(no_mangle)]
 pub extern "C" fn driftpocket_sheet_read(
     text: &[u8],
@@ -82,12 +84,13 @@ pub extern "C" fn driftpocket_sheet_read(
         return or_no_room(read_nowhere(text)[0]);
     }
     let numbers = read_report(sheet_read::read(text, state, pages, bytes, words));
-    copy_words(&numbers, report, 0);
+    copy(&numbers, report, 0);
     numbers[0]
 }
 
 // Writes a sheet: 0, or the refusal, 8 last of all, also where `report` is too short; then nothing is written. `report` gets refusal and
 // length.
+#[tactic(auto, unfolding(crate::specs::Crossing::crossed_write), using(crate::proofs::Laws::write_short, crate::proofs::Laws::write_room))]
 #[unsafe(no_mangle)]
 pub extern "C" fn driftpocket_sheet_write(
     state: &[u64],
@@ -100,12 +103,16 @@ pub extern "C" fn driftpocket_sheet_write(
     ensures { record { number = result; text = text.new; report = report.new }
         ≡ crossed_write (record { state = state.now; pages = pages.now; bytes = bytes.now; words = words.now }) text.old report.old }
 {
+    let parts = Parts {
+        state,
+        pages,
+        bytes,
+        words,
+    };
     if report.len() < WRITE_REPORT {
-        let mut nowhere: [u8; 0] = [];
-        let numbers = write_report(sheet_write::write(state, pages, bytes, words, &mut nowhere));
-        return or_no_room(numbers[0]);
+        return or_no_room(write_report(sheet_write::write(parts, &mut []))[0]);
     }
-    let numbers = write_report(sheet_write::write(state, pages, bytes, words, text));
-    copy_words(&numbers, report, 0);
+    let numbers = write_report(sheet_write::write(parts, text));
+    copy(&numbers, report, 0);
     numbers[0]
 }

@@ -1,11 +1,11 @@
 -- An instruction: four words of the list, and the form that it must have (docs/RULES.md, "Instructions", refusal 6). Assumes nothing.
-use Rattle.std.specs.Prelude.{ℕ, ◌+◌, ◌*◌, ◌^◌, Bool, true, false, cond, ◌&&◌, List, [], ◌∷◌, get_or, eqb, ltb, leb}
+use Rattle.std.specs.Prelude.{ℕ, ◌+◌, ◌*◌, ◌^◌, Bool, true, false, cond, ◌&&◌, List, [], ◌∷◌, get_or, eqb, ltb, leb, Option, Some, None}
 use Rattle.numbers.specs.declared.size.Size.{Size}
 use Rattle.numbers.specs.declared.size.Size.TheVariants.{Four, Eight}
 use Rattle.instructions.specs.Operation.{decoded}
 use Rattle.instructions.specs.declared.instruction.Instruction.{Instruction}
 use Rattle.instructions.specs.declared.operation.Operation.{Operation}
-use Rattle.instructions.specs.declared.operation.Operation.TheVariants.{Incssp, Rstorssp, Saveprevssp, Wrss, Call, Ret, Wruss, Unknown}
+use Rattle.instructions.specs.declared.operation.Operation.TheVariants.{Incssp, Rstorssp, Saveprevssp, Wrss, Call, Ret, Wruss}
 use Rattle.instructions.specs.declared.operation.Target.{Target}
 use Rattle.instructions.specs.declared.operation.Target.TheVariants.{Relative, Absolute}
 use Rattle.instructions.specs.declared.operation.Release.{Release}
@@ -40,7 +40,7 @@ abbrev pub release_fits : Release → ℕ → Bool
 release_fits Plain a = eqb a 0
 release_fits Counted a = ltb a (2 ^ 16)
 
--- the code is known, the words that it does not use are 0, and those that it uses have the bits that they may have
+-- the words that it does not use are 0, and those that it uses have the bits that they may have
 abbrev pub words_fit : Operation → Instruction → Bool
 words_fit (Incssp size) i = eqb i.a 0
 words_fit Rstorssp i = eqb i.b 0
@@ -49,18 +49,12 @@ words_fit (Wrss size) i = true
 words_fit (Call target) i = target_fits target i.a && eqb i.b 0
 words_fit (Ret release) i = release_fits release i.a && eqb i.b 0
 words_fit (Wruss size) i = true
-words_fit Unknown i = false
 
--- mode 0 has no call and no return; a code that is not known has been refused by its words
+-- mode 0 has no call and no return
 abbrev pub in_mode0 : Operation → Bool
-in_mode0 (Incssp size) = true
-in_mode0 Rstorssp = true
-in_mode0 Saveprevssp = true
-in_mode0 (Wrss size) = true
 in_mode0 (Call target) = false
 in_mode0 (Ret release) = false
-in_mode0 (Wruss size) = true
-in_mode0 Unknown = true
+in_mode0 other = true
 
 abbrev pub is_four : Size → Bool
 is_four Four = true
@@ -69,13 +63,9 @@ is_four Eight = false
 -- mode 1 has no form of 8 bytes
 abbrev pub in_mode1 : Operation → Bool
 in_mode1 (Incssp size) = is_four size
-in_mode1 Rstorssp = true
-in_mode1 Saveprevssp = true
 in_mode1 (Wrss size) = is_four size
-in_mode1 (Call target) = true
-in_mode1 (Ret release) = true
 in_mode1 (Wruss size) = is_four size
-in_mode1 Unknown = true
+in_mode1 other = true
 
 -- and no word of more than 32 bits
 unfoldable pub narrow : Operation → Instruction → Bool
@@ -88,5 +78,10 @@ mode_fits op i mode = cond (eqb mode 0) (in_mode0 op) (cond (eqb mode 1) (narrow
 unfoldable pub fits : Operation → Instruction → ℕ → Bool
 fits op i mode = words_fit op i && (length_fits i && mode_fits op i mode)
 
+-- the code is known, and the instruction has the form of its operation
+abbrev pub fits_if : Option Operation → Instruction → ℕ → Bool
+fits_if (Some op) i mode = fits op i mode
+fits_if None i mode = false
+
 unfoldable pub well_formed : Instruction → ℕ → Bool
-well_formed i mode = fits (decoded i.code) i mode
+well_formed i mode = fits_if (decoded i.code) i mode

@@ -3,7 +3,7 @@
 // How many words an instruction has.
 pub const INSTRUCTION_WORDS: usize = 4;
 
-// Its code, its length in bytes, and its two operand words.
+// Its code, its length in bytes, and its two operand words: numbers, so that any four words can be handed in and refused.
 #[derive(Clone, Copy)]
 pub struct Instruction {
     pub code: u64,

@@ -7,5 +7,5 @@ mod operation;
 mod permission;
 
 pub use instruction::{INSTRUCTION_WORDS, Instruction};
-pub use operation::{Operation, Release, Target};
+pub use operation::{Operation, Release, Target, UnknownCode};
 pub use permission::{hidden, shown};

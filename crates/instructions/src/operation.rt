@@ -1,6 +1,6 @@
 // Which operation a code names: the one place where codes are numbers.
 ghost use Rattle.std.specs.Prelude.{◌≡◌};
-ghost use Rattle.instructions.specs.Operation.{decoded};
+ghost use Rattle.instructions.specs.Operation.{named};
 
 use memory::Size;
 
@@ -28,28 +28,33 @@ pub enum Operation {
     Call(Target),
     Ret(Release),
     Wruss(Size),
-    // No code that is known.
-    Unknown,
 }
 
-impl Operation {
-    pub fn of(code: u64) -> Operation
-        ensures { result ≡ decoded code }
-    {
+// A code that names no operation.
+#[derive(Clone, Copy)]
+pub struct UnknownCode(pub u64);
+
+impl TryFrom<u64> for Operation {
+    type Error = UnknownCode;
+
+    ghost try_from_gives = { λ code r. r ≡ named code };
+
+    #[tactic(auto, unfolding(crate::specs::Operation::decoded))]
+    fn try_from(code: u64) -> Result<Self, UnknownCode> {
         match code {
-            1 => Operation::Incssp(Size::Four),
-            2 => Operation::Incssp(Size::Eight),
-            3 => Operation::Rstorssp,
-            4 => Operation::Saveprevssp,
-            5 => Operation::Wrss(Size::Four),
-            6 => Operation::Wrss(Size::Eight),
-            7 => Operation::Call(Target::Relative),
-            8 => Operation::Call(Target::Absolute),
-            9 => Operation::Ret(Release::Plain),
-            10 => Operation::Ret(Release::Counted),
-            11 => Operation::Wruss(Size::Four),
-            12 => Operation::Wruss(Size::Eight),
-            _ => Operation::Unknown,
+            1 => Ok(Operation::Incssp(Size::Four)),
+            2 => Ok(Operation::Incssp(Size::Eight)),
+            3 => Ok(Operation::Rstorssp),
+            4 => Ok(Operation::Saveprevssp),
+            5 => Ok(Operation::Wrss(Size::Four)),
+            6 => Ok(Operation::Wrss(Size::Eight)),
+            7 => Ok(Operation::Call(Target::Relative)),
+            8 => Ok(Operation::Call(Target::Absolute)),
+            9 => Ok(Operation::Ret(Release::Plain)),
+            10 => Ok(Operation::Ret(Release::Counted)),
+            11 => Ok(Operation::Wruss(Size::Four)),
+            12 => Ok(Operation::Wruss(Size::Eight)),
+            _ => Err(UnknownCode(code)),
         }
     }
 }

@@ -5,6 +5,7 @@ ghost use Rattle.instructions.specs.Permission.{write_bit, without_write, hidden
 use processor::State;
 
 // Bit 1 of a CET register, as 0 or 2.
+#[tactic(auto, unfolding(crate::specs::Permission::write_bit))]
 fn write_bit(register: u64) -> u64
     ensures { result ≡ write_bit register }
 {
@@ -12,6 +13,7 @@ fn write_bit(register: u64) -> u64
 }
 
 // A CET register without it.
+#[tactic(auto, unfolding(crate::specs::Permission::write_bit, crate::specs::Permission::without_write))]
 fn without_write(register: u64) -> u64
     ensures { result ≡ without_write register }
 {
@@ -19,6 +21,7 @@ fn without_write(register: u64) -> u64
 }
 
 // A CET register with that bit of another.
+#[tactic(auto, unfolding(crate::specs::Permission::write_bit, crate::specs::Permission::without_write))]
 fn with_write(register: u64, from: u64) -> u64
     ensures { result ≡ without_write register + write_bit from }
 {
@@ -26,21 +29,25 @@ fn with_write(register: u64, from: u64) -> u64
 }
 
 // The state as operations see it.
+#[tactic(auto, unfolding(crate::specs::Permission::hidden))]
 pub fn hidden(state: State) -> State
     ensures { result ≡ hidden_of state }
 {
-    let mut seen = state;
-    seen.ucet = without_write(state.ucet);
-    seen.scet = without_write(state.scet);
-    seen
+    State {
+        ucet: without_write(state.ucet),
+        scet: without_write(state.scet),
+        ..state
+    }
 }
 
 // A state with the permission bits of another.
+#[tactic(auto, unfolding(crate::specs::Permission::shown))]
 pub fn shown(from: State, state: State) -> State
     ensures { result ≡ shown_of from state }
 {
-    let mut whole = state;
-    whole.ucet = with_write(state.ucet, from.ucet);
-    whole.scet = with_write(state.scet, from.scet);
-    whole
+    State {
+        ucet: with_write(state.ucet, from.ucet),
+        scet: with_write(state.scet, from.scet),
+        ..state
+    }
 }

@@ -1,41 +1,28 @@
 -- An access does not see pages of kinds other than its own, and a store leaves them alone. Assumes nothing.
-use Prim.Native.Nat.{ℕ, zero, suc, ◌<◌}
-use mathlib.Core.Path.{◌≡◌, refl, sym, ◌∙◌, ap, ap₂}
-use mathlib.Core.Bool.{Bool, true, false, cond, true≢false}
-use mathlib.Core.List.{List}
-use native.Mathlib.Omega.{arith}
-use lib.ListN.{length}
+use Rattle.std.proofs.Common.{ℕ, zero, suc, ◌<◌, ◌≡◌, refl, sym, ◌∙◌, ap, Bool, true, false, cond, true≢false, List, length, Option, Some, None, Result, Ok, Err, arith}
 use Rattle.addresses.specs.Address.{plus}
 use Rattle.addresses.specs.declared.address.Width.{Width}
 use Rattle.pages.specs.Pages.{Lookup}
 use Rattle.pages.specs.declared.pages.Spot.{Spot}
-use Rattle.pages.specs.declared.pages.Spot.TheVariants.{Unlisted, At}
 use Rattle.numbers.specs.Numbers.{byte_count}
 use Rattle.accesses.specs.Access.{and_then, scan, on_kind, listed_byte, kind_number, start, canonical_bytes, listed_bytes, probe, written}
 use Rattle.memory.specs.Extends.{cell, is_listed, is_kind, Places}
 use Rattle.accesses.specs.declared.access.Access.{Access}
+use Rattle.accesses.specs.declared.reach.Failure.{Failure}
 use Rattle.accesses.specs.declared.reach.Failure.TheVariants.{WrongKind}
-use Rattle.accesses.specs.declared.reach.Reach.{Reach}
-use Rattle.accesses.specs.declared.reach.Reach.TheVariants.{Ready, Blocked}
 use Rattle.addresses.proofs.Sums.{Wrapped, wrapped_plus, wrapped_start, one_on}
 use Rattle.memory.proofs.Cells.{reached}
 use Rattle.memory.proofs.Stored.{written_elsewhere}
-use Rattle.memory.proofs.TwoMemories.{ready_turn, probe_ready}
+use Rattle.memory.proofs.TwoMemories.{ready_turn, probe_ready, scan_alike}
 
 -- ---- trying
 
 -- one byte
-same_byte : (kind address : ℕ) (at₁ at₂ : Spot) → is_listed at₁ ≡ is_listed at₂ → is_kind kind at₁ ≡ is_kind kind at₂ → on_kind kind address at₁ ≡ on_kind kind address at₂
-same_byte kind address Unlisted Unlisted listed same = refl
-same_byte kind address Unlisted (At found place) listed same = absurd (true≢false (sym listed))
-same_byte kind address (At found place) Unlisted listed same = absurd (true≢false listed)
-same_byte kind address (At found₁ place₁) (At found₂ place₂) listed same = ap (λ (t : Bool). cond t Ready (Blocked (WrongKind address))) same
-
--- bytes in a row, by any test
-same_scan : (t₁ t₂ : ℕ → Reach) → ((address : ℕ) → t₁ address ≡ t₂ address) → (w : Width) (address n : ℕ) → scan t₁ w address n ≡ scan t₂ w address n
-unfolding scan
-same_scan t₁ t₂ alike w address zero = refl
-same_scan t₁ t₂ alike w address (suc n) = ap₂ and_then (alike address) (same_scan t₁ t₂ alike w (plus w address 1) n)
+same_byte : (kind address : ℕ) (at₁ at₂ : Option Spot) → is_listed at₁ ≡ is_listed at₂ → is_kind kind at₁ ≡ is_kind kind at₂ → on_kind kind address at₁ ≡ on_kind kind address at₂
+same_byte kind address None None listed same = refl
+same_byte kind address None (Some t) listed same = absurd (true≢false (sym listed))
+same_byte kind address (Some s) None listed same = absurd (true≢false listed)
+same_byte kind address (Some s) (Some t) listed same = ap (λ (yes : Bool). cond yes (Ok tt) (Err (WrongKind address))) same
 
 -- What trying an access finds depends only on which addresses are listed and which of them are of its kind.
 pub same_kind_probe : (look₁ look₂ : Lookup) (a : Access)
@@ -44,7 +31,7 @@ pub same_kind_probe : (look₁ look₂ : Lookup) (a : Access)
     → probe look₁ a ≡ probe look₂ a
 unfolding probe listed_bytes
 same_kind_probe look₁ look₂ a listed same =
-    ap (and_then (canonical_bytes a)) (same_scan (listed_byte look₁ kind) (listed_byte look₂ kind) bytes a.width (start a) (byte_count a.size))
+    ap (and_then (canonical_bytes a)) (scan_alike (listed_byte look₁ kind) (listed_byte look₂ kind) bytes a.width (start a) (byte_count a.size))
   where
     kind : ℕ
     kind = kind_number a.kind
@@ -55,7 +42,7 @@ same_kind_probe look₁ look₂ a listed same =
 -- ---- storing
 
 -- every byte of an access that is ready passes its test
-scan_each : (test : ℕ → Reach) (w : Width) (address n i : ℕ) → Wrapped w address → i < n → scan test w address n ≡ Ready → test (plus w address i) ≡ Ready
+scan_each : (test : ℕ → Result (Unit {0}) Failure) (w : Width) (address n i : ℕ) → Wrapped w address → i < n → scan test w address n ≡ Ok tt → test (plus w address i) ≡ Ok tt
 scan_each test w address zero i at h e = absurd (omega arith)
 scan_each test w address (suc n) zero at h e = ap test at ∙ (ready_turn test w address n e).0
 scan_each test w address (suc n) (suc i) at h e =
@@ -63,7 +50,7 @@ scan_each test w address (suc n) (suc i) at h e =
 
 -- a store leaves every address alone that does not lead to a page of its kind
 pub written_on_kind : (look : Lookup) (bytes : List ℕ) → Places look (length bytes) → (a : Access) (v other : ℕ)
-    → probe look a ≡ Ready → is_kind (kind_number a.kind) (look other) ≡ false
+    → probe look a ≡ Ok tt → is_kind (kind_number a.kind) (look other) ≡ false
     → cell look (written look a v bytes) other ≡ cell look bytes other
 unfolding listed_bytes
 written_on_kind look bytes places a v other ready off =

@@ -1,15 +1,9 @@
 -- From two page lists to two memories side by side, and back. Assumes nothing.
-use Prim.Native.Nat.{ℕ, ◌+◌, ◌*◌, ◌%◌, ◌<◌}
-use mathlib.Core.Path.{◌≡◌, refl, sym, ◌∙◌, ap, ap₂}
-use mathlib.Core.Bool.{false}
-use mathlib.Core.List.{List}
-use native.Mathlib.Omega.{arith}
-use lib.ListN.{length, get_or, drop, length-take, length-drop}
-use lib.Seq.{get_or-take, get_or-drop, ext_get_or}
-use Rattle.pages.specs.Pages.{page_bytes, page_of, kind_of, on_page, any_entry, listing, spot}
+use Rattle.std.proofs.Common.{ℕ, ◌+◌, ◌*◌, ◌%◌, ◌<◌, ◌≡◌, refl, sym, ◌∙◌, ap, ap₂, false, List, length, get_or, drop, Ok, length-take, length-drop, get_or-take, get_or-drop, ext_get_or, arith}
+use Rattle.std.specs.List.{list_any}
+use Rattle.pages.specs.Pages.{page_bytes, page_of, kind_of, on_page, listing, spot}
 use Rattle.accesses.specs.Access.{lookup_of}
 use Rattle.memory.specs.Extends.{Cell, absent, present, cell, Extends, page_at, HoldsPages, Untouched}
-use Rattle.pages.specs.declared.pages.Listing.TheVariants.{Valid}
 use Rattle.memory.proofs.Cells.{held, cell_at}
 use Rattle.accesses.proofs.Laws.{behind}
 use Rattle.memory.proofs.Valid.{Good, valid, listed, unlisted}
@@ -26,19 +20,19 @@ module _ (pages₁ bytes₁ pages₂ bytes₂ : List ℕ) (good₂ : Good pages�
   held_in_second : (address kind byte : ℕ) → cell (spot pages₁ (length bytes₁)) bytes₁ address ≡ present kind byte → cell (spot pages₂ (length bytes₂)) bytes₂ address ≡ present kind byte
   held_in_second address kind byte e =
       let h = held bytes₁ (spot pages₁ (length bytes₁) address) kind byte e in
-      let f = behind pages₁ (length bytes₁) address kind h.place h.spot_is in
+      let f = behind pages₁ (length bytes₁) address h.found h.spot_is in
       let g = holds.each f.j f.listed in
-      let place_is : h.place ≡ page_bytes * f.j + address % page_bytes = f.place_is ∙ ap (λ (n : ℕ). page_bytes * n + address % page_bytes) (from_zero f.j) in
-      cell_at bytes₂ (spot pages₂ (length bytes₂) address) (kind_of (get_or pages₂ g.0 0)) (page_bytes * g.0 + address % page_bytes)
+      let place_is : h.found.place ≡ page_bytes * f.j + address % page_bytes = f.place_is ∙ ap (λ (n : ℕ). page_bytes * n + address % page_bytes) (from_zero f.j) in
+      cell_at bytes₂ (spot pages₂ (length bytes₂) address) (record { kind = kind_of (get_or pages₂ g.0 0); place = page_bytes * g.0 + address % page_bytes })
       (listed pages₂ (length bytes₂) address g.0 good₂ g.1 (ap page_of g.2 ∙ f.on))
-      ∙ ap₂ present (ap kind_of g.2 ∙ f.kind_is)
+      ∙ ap₂ present (ap kind_of g.2 ∙ f.kind_is ∙ h.kind_is)
       (same_page bytes₁ bytes₂ f.j g.0 (address % page_bytes) (omega arith) g.3 ∙ ap (λ (p : ℕ). get_or bytes₁ p 0) (sym place_is) ∙ h.byte_is)
     where
       from_zero : (n : ℕ) → 0 + n ≡ n
       from_zero n = omega arith
 
 -- The second list, valid, holds every page of the first: its memory extends the first's.
-pub pages_extend : (pages₁ bytes₁ pages₂ bytes₂ : List ℕ) → listing pages₂ (length bytes₂) ≡ Valid → HoldsPages pages₁ bytes₁ pages₂ bytes₂
+pub pages_extend : (pages₁ bytes₁ pages₂ bytes₂ : List ℕ) → listing pages₂ (length bytes₂) ≡ Ok tt → HoldsPages pages₁ bytes₁ pages₂ bytes₂
     → Extends (lookup_of pages₁ bytes₁) bytes₁ (lookup_of pages₂ bytes₂) bytes₂ bytes₂
 unfolding lookup_of
 pages_extend pages₁ bytes₁ pages₂ bytes₂ valid₂ holds = record {
@@ -47,7 +41,7 @@ pages_extend pages₁ bytes₁ pages₂ bytes₂ valid₂ holds = record {
 }
 
 -- The order of a list has no meaning: two valid lists of the same pages hold the same at every address.
-pub order_free : (pages₁ bytes₁ pages₂ bytes₂ : List ℕ) → listing pages₁ (length bytes₁) ≡ Valid → listing pages₂ (length bytes₂) ≡ Valid
+pub order_free : (pages₁ bytes₁ pages₂ bytes₂ : List ℕ) → listing pages₁ (length bytes₁) ≡ Ok tt → listing pages₂ (length bytes₂) ≡ Ok tt
     → HoldsPages pages₁ bytes₁ pages₂ bytes₂ → HoldsPages pages₂ bytes₂ pages₁ bytes₁
     → (address : ℕ) → cell (lookup_of pages₁ bytes₁) bytes₁ address ≡ cell (lookup_of pages₂ bytes₂) bytes₂ address
 unfolding lookup_of
@@ -83,7 +77,7 @@ own_cell : (pages bytes : List ℕ) (i offset : ℕ) → Good pages (length byte
     → cell (spot pages (length bytes)) bytes (page_of (get_or pages i 0) + offset) ≡ present (kind_of (get_or pages i 0)) (get_or (page_at bytes i) offset 0)
 own_cell pages bytes i offset good h o =
     let entry : ℕ = get_or pages i 0 in
-    cell_at bytes _ (kind_of entry) (page_bytes * i + (page_of entry + offset) % page_bytes) (listed pages (length bytes) (page_of entry + offset) i good h (on_own_page entry offset o))
+    cell_at bytes _ (record { kind = kind_of entry; place = page_bytes * i + (page_of entry + offset) % page_bytes }) (listed pages (length bytes) (page_of entry + offset) i good h (on_own_page entry offset o))
     ∙ ap (λ (n : ℕ). present (kind_of entry) (get_or bytes (page_bytes * i + n) 0)) (own_offset entry offset o)
     ∙ ap (present (kind_of entry)) (sym (page_byte bytes i offset o))
 
@@ -105,7 +99,7 @@ module _ (pages₁ bytes₁ pages₂ bytes₂ lent₂ : List ℕ) (good₁ : Goo
           ∙ ap (λ (entry : ℕ). cell (spot pages₂ (length bytes₂)) bytes₂ (page_of entry + offset)) same
           ∙ extends.old (page_of (get_or pages₁ i 0) + offset) _ _ (own_cell pages₁ bytes₁ i offset good₁ h o))
 
-  added_page : (j : ℕ) → j < length pages₂ → any_entry (on_page (page_of (get_or pages₂ j 0))) pages₁ ≡ false → page_at bytes₂ j ≡ page_at lent₂ j
+  added_page : (j : ℕ) → j < length pages₂ → list_any (on_page (page_of (get_or pages₂ j 0))) pages₁ ≡ false → page_at bytes₂ j ≡ page_at lent₂ j
   added_page j k none =
       ext_get_or 0 (page_at bytes₂ j) (page_at lent₂ j) (page_length_lem pages₂ bytes₂ j good₂ k ∙ sym (page_length_lem pages₂ lent₂ j good_lent k))
       (λ offset below. byte offset (rw (← page_length_lem pages₂ bytes₂ j good₂ k) below))
@@ -123,7 +117,7 @@ module _ (pages₁ bytes₁ pages₂ bytes₂ lent₂ : List ℕ) (good₁ : Goo
 
 -- Whatever was stored since: while the second memory extends the first, it holds the first's pages as they are now, and the added
 -- pages as they were lent.
-pub extends_pages : (pages₁ lent₁ bytes₁ pages₂ lent₂ bytes₂ : List ℕ) → listing pages₁ (length bytes₁) ≡ Valid → listing pages₂ (length bytes₂) ≡ Valid → length bytes₂ ≡ length lent₂
+pub extends_pages : (pages₁ lent₁ bytes₁ pages₂ lent₂ bytes₂ : List ℕ) → listing pages₁ (length bytes₁) ≡ Ok tt → listing pages₂ (length bytes₂) ≡ Ok tt → length bytes₂ ≡ length lent₂
     → HoldsPages pages₁ lent₁ pages₂ lent₂ → Extends (lookup_of pages₁ bytes₁) bytes₁ (lookup_of pages₂ bytes₂) bytes₂ lent₂
     → HoldsPages pages₁ bytes₁ pages₂ bytes₂ × Untouched pages₁ pages₂ bytes₂ lent₂
 unfolding lookup_of

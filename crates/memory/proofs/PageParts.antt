@@ -1,11 +1,6 @@
 -- Bytes in a row on a page that is handed on are those bytes of the whole. Assumes nothing.
-use Prim.Native.Nat.{ℕ, zero, suc, ◌+◌, ◌-◌, ◌*◌, ◌/◌, ◌%◌, ◌<◌, ◌≤◌}
-use mathlib.Core.Path.{◌≡◌, refl, sym, ◌∙◌, ap, ap₂}
-use mathlib.Core.List.{List, ◌++◌}
-use native.Mathlib.Omega.{arith}
-use lib.ListN.{length, set, take, drop}
-use lib.Seq.{get_or-take, get_or-drop, take-set-le, take-set-lt, drop-set-add, drop-set-lt}
-use lib.Dec.{leb}
+use Rattle.std.proofs.Common.{ℕ, zero, suc, ◌+◌, ◌-◌, ◌*◌, ◌/◌, ◌%◌, ◌<◌, ◌≤◌, ◌≡◌, refl, sym, ◌∙◌, ap, ap₂, List, ◌++◌, length, set, take, drop, leb, get_or-take, get_or-drop, drop-set-lt, arith}
+use lib.Seq.{take-set-le, take-set-lt, drop-set-add}
 use borrow.Rule.Slice.PartMut.{mid_of, put_mid, put_same, mid_len}
 use Rattle.pages.specs.Pages.{page_bytes}
 use Rattle.numbers.specs.Numbers.{inside, number_at, put_at}

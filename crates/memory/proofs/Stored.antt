@@ -1,9 +1,5 @@
 -- What a store leaves: the value where it was stored, and every other address as it was. Assumes nothing.
-use Prim.Native.Nat.{ℕ, zero, suc, ◌+◌, ◌*◌, ◌/◌, ◌%◌, ◌^◌, ◌<◌, ◌≤◌}
-use mathlib.Core.Path.{◌≡◌, refl, sym, ◌∙◌, ap, ap₂}
-use mathlib.Core.List.{List}
-use native.Mathlib.Omega.{arith}
-use lib.ListN.{length}
+use Rattle.std.proofs.Common.{ℕ, zero, suc, ◌+◌, ◌*◌, ◌/◌, ◌%◌, ◌^◌, ◌<◌, ◌≤◌, ◌≡◌, refl, sym, ◌∙◌, ap, ap₂, List, length, Option, Some, None, Ok, arith}
 use lib.Pow.{mod-pow-add}
 use Rattle.addresses.specs.Address.{plus}
 use Rattle.pages.specs.Pages.{Lookup}
@@ -13,9 +9,7 @@ use Rattle.memory.specs.Extends.{cell, Places}
 use Rattle.addresses.specs.declared.address.Width.{Width}
 use Rattle.addresses.specs.declared.address.Width.TheVariants.{Bits32, Bits64}
 use Rattle.pages.specs.declared.pages.Spot.{Spot}
-use Rattle.pages.specs.declared.pages.Spot.TheVariants.{Unlisted, At}
 use Rattle.accesses.specs.declared.access.Access.{Access}
-use Rattle.accesses.specs.declared.reach.Reach.TheVariants.{Ready}
 use Rattle.numbers.proofs.Laws.{at_most_eight}
 use Rattle.memory.proofs.Cells.{reached, cell_byte, cell_byte_lem, put_here, put_there, places_put}
 use Rattle.addresses.proofs.Sums.{Wrapped, wrapped_plus, wrapped_start, one_on}
@@ -35,9 +29,9 @@ put_elsewhere : (look : Lookup) (bytes : List ℕ) → Places look (length bytes
     → cell look (put_byte (look address) byte bytes) other ≡ cell look bytes other
 put_elsewhere look bytes places address byte other off = go (look address) refl
   where
-    go : (spot : Spot) → look address ≡ spot → cell look (put_byte spot byte bytes) other ≡ cell look bytes other
-    go Unlisted e = refl
-    go (At kind place) e = ap (λ (s : Spot). cell look (put_byte s byte bytes) other) (sym e) ∙ put_there look bytes places address kind place e byte other off
+    go : (spot : Option Spot) → look address ≡ spot → cell look (put_byte spot byte bytes) other ≡ cell look bytes other
+    go None e = refl
+    go (Some s) e = ap (λ (spot : Option Spot). cell look (put_byte spot byte bytes) other) (sym e) ∙ put_there look bytes places address s e byte other off
 
 write_elsewhere : (look : Lookup) (w : Width) (address n v : ℕ) (bytes : List ℕ) → Places look (length bytes) → Wrapped w address → (other : ℕ) → ((i : ℕ) → i < n → other ≡ plus w address i → ⊥)
     → cell look (write look w address n v bytes) other ≡ cell look bytes other
@@ -63,7 +57,7 @@ digits v n =
     let more : 8 * suc n ≡ 8 * n + 8 = omega arith in
     rw (more, split) (omega arith)
 
-number_written : (look : Lookup) (kind : ℕ) (w : Width) (address n v : ℕ) (bytes : List ℕ) → Places look (length bytes) → Wrapped w address → n ≤ 8 → scan (listed_byte look kind) w address n ≡ Ready
+number_written : (look : Lookup) (kind : ℕ) (w : Width) (address n v : ℕ) (bytes : List ℕ) → Places look (length bytes) → Wrapped w address → n ≤ 8 → scan (listed_byte look kind) w address n ≡ Ok tt
     → number look (write look w address n v bytes) w address n ≡ v % 2 ^ (8 * n)
 unfolding number write
 number_written look kind w address zero v bytes places h k e = omega arith
@@ -76,12 +70,12 @@ number_written look kind w address (suc n) v bytes places h k e =
     let kept : cell look after address ≡ cell look put address
     = write_elsewhere look w (plus w address 1) n (v / 256) put places' (wrapped_plus w address 1) address (λ i j q. not_back w address i h (omega arith) q) in
     let here : byte_in after (look address) ≡ v % 256
-    = cell_byte_lem after (look address) ∙ ap cell_byte (kept ∙ put_here look bytes places address r.found r.place r.spot_is (v % 256)) in
+    = cell_byte_lem after (look address) ∙ ap cell_byte (kept ∙ put_here look bytes places address r.found r.spot_is (v % 256)) in
     ap₂ (λ (b rest : ℕ). b + 256 * rest) here (number_written look kind w (plus w address 1) n (v / 256) put places' (wrapped_plus w address 1) (omega arith) turn.1)
     ∙ digits v n
 
 -- a load of what was stored gives its low bytes back
-pub value_written : (look : Lookup) (bytes : List ℕ) → Places look (length bytes) → (a : Access) (v : ℕ) → probe look a ≡ Ready
+pub value_written : (look : Lookup) (bytes : List ℕ) → Places look (length bytes) → (a : Access) (v : ℕ) → probe look a ≡ Ok tt
     → value look (written look a v bytes) a ≡ v % 2 ^ (8 * byte_count a.size)
 unfolding written value listed_bytes
 value_written look bytes places a v e =

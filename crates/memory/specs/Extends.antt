@@ -1,40 +1,40 @@
 -- Two memories side by side (docs/RULES.md, "Two runs side by side"). Assumes nothing.
-use Rattle.std.specs.Prelude.{ℕ, ◌*◌, ◌<◌, ◌≡◌, Bool, true, false, List, length, get_or, take, drop, eqb}
-use Rattle.pages.specs.Pages.{Lookup, page_bytes, page_of, on_page, any_entry}
+use Rattle.std.specs.Prelude.{ℕ, ◌*◌, ◌<◌, ◌≡◌, Bool, true, false, Option, Some, None, List, length, get_or, take, drop, eqb}
+use Rattle.std.specs.List.{list_any}
+use Rattle.pages.specs.Pages.{Lookup, page_bytes, page_of, on_page}
 use Rattle.pages.specs.declared.pages.Spot.{Spot}
-use Rattle.pages.specs.declared.pages.Spot.TheVariants.{Unlisted, At}
 
 -- what an address holds: nothing, or a byte on a page of a kind
 pub data Cell : Type 0 where
   absent : Cell
   present : ℕ → ℕ → Cell
 
-abbrev pub cell_in : List ℕ → Spot → Cell
-cell_in bytes Unlisted = absent
-cell_in bytes (At kind place) = present kind (get_or bytes place 0)
+abbrev pub cell_in : List ℕ → Option Spot → Cell
+cell_in bytes None = absent
+cell_in bytes (Some s) = present s.kind (get_or bytes s.place 0)
 
 abbrev pub cell : Lookup → List ℕ → ℕ → Cell
 cell look bytes address = cell_in bytes (look address)
 
 -- an address leads to a listed page, and to one of a kind
-abbrev pub is_listed : Spot → Bool
-is_listed Unlisted = false
-is_listed (At kind place) = true
+abbrev pub is_listed : Option Spot → Bool
+is_listed None = false
+is_listed (Some s) = true
 
-abbrev pub is_kind : ℕ → Spot → Bool
-is_kind kind Unlisted = false
-is_kind kind (At found place) = eqb found kind
+abbrev pub is_kind : ℕ → Option Spot → Bool
+is_kind kind None = false
+is_kind kind (Some s) = eqb s.kind kind
 
 -- The second memory extends the first. Old bytes (the papers' term: those on pages of the first) are alike in both, and so are
 -- their kinds; every other address of the second, on an added page or on none, still holds what was lent there, `lent₂`.
 pub record Extends (look₁ : Lookup) (bytes₁ : List ℕ) (look₂ : Lookup) (bytes₂ lent₂ : List ℕ) : Type 0 where
   pub old : (address kind byte : ℕ) → cell look₁ bytes₁ address ≡ present kind byte → cell look₂ bytes₂ address ≡ present kind byte
-  pub added : (address : ℕ) → look₁ address ≡ Unlisted → cell look₂ bytes₂ address ≡ cell look₂ lent₂ address
+  pub added : (address : ℕ) → look₁ address ≡ None → cell look₂ bytes₂ address ≡ cell look₂ lent₂ address
 
 -- every place is among the lent bytes, and no two addresses lead to one place
 pub record Places (look : Lookup) (lent : ℕ) : Type 0 where
-  pub inside : (address kind place : ℕ) → look address ≡ At kind place → place < lent
-  pub apart : (a b k l place : ℕ) → look a ≡ At k place → look b ≡ At l place → a ≡ b
+  pub inside : (address : ℕ) (s : Spot) → look address ≡ Some s → s.place < lent
+  pub apart : (a b : ℕ) (s t : Spot) → look a ≡ Some s → look b ≡ Some t → s.place ≡ t.place → a ≡ b
 
 -- the bytes of the i-th page
 abbrev pub page_at : List ℕ → ℕ → List ℕ
@@ -46,4 +46,4 @@ pub record HoldsPages (pages₁ bytes₁ pages₂ bytes₂ : List ℕ) : Type 0 
 
 -- the added pages, which the first list has not, are untouched (the papers' terms): they hold what was lent
 pub record Untouched (pages₁ pages₂ bytes₂ lent₂ : List ℕ) : Type 0 where
-  pub each : (j : ℕ) → j < length pages₂ → any_entry (on_page (page_of (get_or pages₂ j 0))) pages₁ ≡ false → page_at bytes₂ j ≡ page_at lent₂ j
+  pub each : (j : ℕ) → j < length pages₂ → list_any (on_page (page_of (get_or pages₂ j 0))) pages₁ ≡ false → page_at bytes₂ j ≡ page_at lent₂ j

@@ -3,9 +3,9 @@ use Rattle.std.specs.Prelude.{ℕ, ◌+◌, cond, List, ◌++◌, length, take, 
 use Rattle.numbers.specs.Numbers.{inside}
 
 -- a piece laid over a buffer from a place on: what lies before and past it stays
-unfoldable pub laid : List ℕ → ℕ → List ℕ → List ℕ
+unfoldable pub laid : {A : Type 0} → List A → ℕ → List A → List A
 laid out at piece = take at out ++ (piece ++ drop (at + length piece) out)
 
 -- the same where there is room for all of it, else the buffer as it was
-unfoldable pub laid_if : List ℕ → ℕ → List ℕ → List ℕ
+unfoldable pub laid_if : {A : Type 0} → List A → ℕ → List A → List A
 laid_if out at piece = cond (inside (length out) at (length piece)) (laid out at piece) out

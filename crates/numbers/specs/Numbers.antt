@@ -1,9 +1,7 @@
 -- Numbers of 4 and 8 bytes, low byte first, at a place of a list of bytes. Assumes nothing.
-use Rattle.std.specs.Prelude.{ℕ, zero, suc, ◌+◌, ◌*◌, ◌/◌, ◌%◌, Bool, cond, List, [], ◌∷◌, length, get_or, set, leb}
+use Rattle.std.specs.Prelude.{ℕ, zero, suc, ◌+◌, ◌*◌, ◌/◌, ◌%◌, Bool, cond, List, [], ◌∷◌, length, get_or, set, leb, Option, Some, None}
 use Rattle.numbers.specs.declared.size.Size.{Size}
 use Rattle.numbers.specs.declared.size.Size.TheVariants.{Four, Eight}
-use Rattle.numbers.specs.declared.loads.Held.{Held}
-use Rattle.numbers.specs.declared.loads.Held.TheVariants.{Number, Outside}
 
 abbrev pub byte_count : Size → ℕ
 byte_count Four = 4
@@ -23,9 +21,9 @@ unfoldable pub little_bytes : ℕ → ℕ → List ℕ
 little_bytes zero v = []
 little_bytes (suc n) v = v % 256 ∷ little_bytes n (v / 256)
 
--- the number that n bytes hold, or `Outside` where the list ends before the n bytes do
-unfoldable pub held : List ℕ → ℕ → ℕ → Held
-held bytes place n = cond (inside (length bytes) place n) (Number (number_at bytes place n)) Outside
+-- the number that n bytes hold, or `None` where the list ends before the n bytes do
+unfoldable pub held : List ℕ → ℕ → ℕ → Option ℕ
+held bytes place n = cond (inside (length bytes) place n) (Some (number_at bytes place n)) None
 
 -- the low n bytes of a value, put from a place on
 unfoldable pub put_at : ℕ → ℕ → ℕ → List ℕ → List ℕ

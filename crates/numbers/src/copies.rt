@@ -4,43 +4,22 @@ ghost use Rattle.numbers.specs.Numbers.{inside};
 ghost use Rattle.numbers.specs.Buffers.{laid_if};
 
 // Whether n elements from a place on lie within a list of this length.
+#[tactic(auto, unfolding(crate::specs::Numbers::inside))]
 pub fn has_room(lent: usize, at: usize, n: usize) -> bool
     ensures { result ≡ inside lent at n }
 {
-    if lent < at {
-        return false;
-    }
-    n <= lent - at
+    at <= lent && n <= lent - at
 }
 
-// Copies bytes over a list from a place on, or nothing where they do not fit; and says which.
-pub fn copy_bytes(bytes: &[u8], out: &mut [u8], at: usize) -> bool
-    ensures value { result ≡ inside (length out.old) at (length bytes.now) }
-    ensures out_after { out.new ≡ laid_if out.old at bytes.now }
+// Copies a piece over a list from a place on, or nothing where it does not fit; and says which.
+#[tactic(auto, unfolding(crate::specs::Numbers::inside), using(crate::proofs::BufferLaws::laid_unless, crate::proofs::BufferLaws::copied))]
+pub fn copy<T: Copy>(piece: &[T], out: &mut [T], at: usize) -> bool
+    ensures value { result ≡ inside (length out.old) at (length piece.now) }
+    ensures out_after { out.new ≡ laid_if out.old at piece.now }
 {
-    if !has_room(out.len(), at, bytes.len()) {
+    if !has_room(out.len(), at, piece.len()) {
         return false;
     }
-    let mut i = 0;
-    while i < bytes.len() {
-        out[at + i] = bytes[i];
-        i += 1;
-    }
-    true
-}
-
-// The same for words of 64 bits.
-pub fn copy_words(words: &[u64], out: &mut [u64], at: usize) -> bool
-    ensures value { result ≡ inside (length out.old) at (length words.now) }
-    ensures out_after { out.new ≡ laid_if out.old at words.now }
-{
-    if !has_room(out.len(), at, words.len()) {
-        return false;
-    }
-    let mut i = 0;
-    while i < words.len() {
-        out[at + i] = words[i];
-        i += 1;
-    }
+    out[at..at + piece.len()].copy_from_slice(piece);
     true
 }

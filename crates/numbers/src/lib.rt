@@ -6,7 +6,7 @@ mod loads;
 mod size;
 mod stores;
 
-pub use copies::{copy_bytes, copy_words, has_room};
-pub use loads::{Held, load};
+pub use copies::{copy, has_room};
+pub use loads::load;
 pub use size::Size;
 pub use stores::store;

@@ -1,10 +1,8 @@
 // How many bytes a number has.
 ghost use Rattle.std.specs.Prelude.{◌≡◌};
-ghost use Rattle.numbers.specs.Numbers.{byte_count, inside};
+ghost use Rattle.numbers.specs.Numbers.{byte_count};
 
-use crate::copies::has_room;
-
-#[derive(Clone, Copy)]
+#[derive(Clone, Copy, PartialEq, Eq)]
 pub enum Size {
     Four,
     Eight,
@@ -18,12 +16,5 @@ impl Size {
             Size::Four => 4,
             Size::Eight => 8,
         }
-    }
-
-    // Whether so many bytes from a place on lie within a list of this length.
-    pub(crate) fn is_inside(self, at: usize, lent: usize) -> bool
-        ensures { result ≡ inside lent at (byte_count self) }
-    {
-        has_room(lent, at, self.bytes() as usize)
     }
 }

@@ -3,4 +3,4 @@
 
 mod order;
 
-pub use order::{Next, next_page, page_number};
+pub use order::{next_page, page_number};

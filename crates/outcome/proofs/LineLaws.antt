@@ -1,9 +1,5 @@
 -- A line at the front of its buffer. Assumes nothing.
-use Prim.Native.Nat.{ℕ, ◌+◌, ◌*◌, ◌≤◌}
-use mathlib.Core.Path.{◌≡◌, ◌∙◌}
-use mathlib.Core.List.{List}
-use native.Mathlib.Omega.{arith}
-use lib.ListN.{length, take}
+use Rattle.std.proofs.Common.{◌≡◌, ℕ, ◌+◌, ◌*◌, ◌≤◌, List, length, take, ◌∙◌, arith}
 use Rattle.numbers.specs.Buffers.{laid_if}
 use Rattle.numbers.proofs.Laws.{laid_if_lem, laid_front, length_laid}
 use Rattle.texts.specs.Fields.{line_of}

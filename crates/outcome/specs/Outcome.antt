@@ -1,13 +1,12 @@
 -- What the program writes for a text (docs/RULES.md, "The outcome of a sheet"). Assumes nothing.
-use Rattle.std.specs.Prelude.{ℕ, ◌*◌, cond, List, [], ◌∷◌, ◌++◌, length, drop, ltb}
+use Rattle.std.specs.Prelude.{ℕ, ◌*◌, cond, List, [], ◌∷◌, ◌++◌, length, drop, ltb, Result, Ok, Err}
 use Rattle.answers.specs.Answer.{refusal_number, room_number, sheet_number, report_of}
 use Rattle.answers.specs.declared.answer.Answer.{Answer}
+use Rattle.answers.specs.declared.answer.Refusal.{Refusal}
 use Rattle.answers.specs.declared.answer.Report.{Report}
 use Rattle.processor.specs.Layout.{state_of, words_of}
 use Rattle.instructions.specs.Instruction.{instruction_words}
 use Rattle.replay.specs.Run.{Input, input_of, Run, replayed}
-use Rattle.replay.specs.declared.steps.Tested.{Tested}
-use Rattle.replay.specs.declared.steps.Tested.TheVariants.{Passed, Failed}
 use Rattle.texts.specs.Fields.{line_of}
 use Rattle.sheet.specs.Lent.{Buffers, tested}
 use Rattle.sheet.specs.Sheets.{saved_of, buffers_of, text}
@@ -51,9 +50,9 @@ answered given = answer_line (replayed given).count (replayed given).answer ++ t
 -- ---- any text
 
 -- refusals 1, 2, 3, 5 and 7, or the run
-abbrev pub by_test : Tested → Buffers → List ℕ
-by_test Passed run = answered (input_from run)
-by_test (Failed refusal) run = refused_line (refusal_number refusal) 0
+abbrev pub by_test : Result (Unit {0}) Refusal → Buffers → List ℕ
+by_test (Ok passed) run = answered (input_from run)
+by_test (Err refusal) run = refused_line (refusal_number refusal) 0
 
 -- refusal 9 before them
 abbrev pub by_text : Parsed → List ℕ

@@ -2,23 +2,21 @@
 // left. No contract can speak of what is read and written there; `outcome` says what is written for a text.
 #![tactic(auto)]
 
-ghost use Rattle.std.specs.Prelude.{◌≡◌, List, ℕ, ◌*◌, ◌≤◌, length, take, drop, IfOk};
+ghost use Rattle.std.specs.Prelude.{◌≡◌, List, ℕ, ◌*◌, ◌≤◌, length, take, drop, IfOk, Ok};
 ghost use Rattle.processor.specs.Layout.{words_of};
 ghost use Rattle.replay.specs.Run.{input_of};
-ghost use Rattle.replay.specs.declared.steps.Tested.TheVariants.{Passed};
 ghost use Rattle.sheet.specs.Lent.{tested};
 ghost use Rattle.sheet.specs.Sheets.{saved_of, text as text_of};
-ghost use Rattle.outcome.specs.Outcome.{answer_line, refused_line, answered, text_limit, outcome as outcome_of};
+ghost use Rattle.outcome.specs.Outcome.{answer_line, refused_line, answered, outcome as outcome_of};
 ghost use Rattle.outcome.specs.Fronts.{Holds};
 
 use answers::{NO_ROOM, NO_SHEET};
 use instructions::INSTRUCTION_WORDS;
 use memory::{PAGE_BYTES, PAGE_LIMIT};
-use processor::{Answer, FIELDS, Refusal, State};
+use processor::{Answer, FIELDS, Refusal, Report, State};
 use replay::INSTRUCTION_LIMIT;
-use sheet_read::Reading;
-use sheet_write::Writing;
-use state_words::Formed;
+use sheet::Parts;
+use sheet_read::ReadError;
 use std::io;
 use std::io::Read;
 use texts::{FIELD, put_line};
@@ -39,12 +37,10 @@ struct Fronts {
 }
 
 // A text that is not run.
-fn refuse(refusal: u64, row: u64, line: &mut [u8]) -> Fronts
-    requires { 97 ≤ length line.old }
+fn refuse(refusal: u64, row: u64, line: &mut [u8; ANSWER_LINE]) -> Fronts
     ensures { (sheet : List ℕ) → Holds (refused_line refusal row) line.new sheet result }
 {
-    let values = [refusal, row];
-    put_line(b"refused", &values, line, 0);
+    put_line(b"refused", &[refusal, row], line, 0);
     Fronts {
         line: REFUSED_LINE,
         sheet: 0,
@@ -52,12 +48,11 @@ fn refuse(refusal: u64, row: u64, line: &mut [u8]) -> Fronts
 }
 
 // How a run ended.
-fn put_answer(count: usize, answer: Answer, line: &mut [u8]) -> usize
-    requires { 97 ≤ length line.old }
+fn put_answer(count: usize, answer: Answer, line: &mut [u8; ANSWER_LINE]) -> usize
     ensures fits { result ≤ length line.new }
     ensures line { take result line.new ≡ answer_line count answer }
 {
-    let report = answer.report();
+    let report: Report = answer.into();
     let values = [
         count as u64,
         report.refusal,
@@ -70,77 +65,58 @@ fn put_answer(count: usize, answer: Answer, line: &mut [u8]) -> usize
 }
 
 // The sheet of a run that is not refused, and its length.
-fn put_left(state: State, pages: &[u64], bytes: &[u8], words: &[u64], sheet: &mut [u8]) -> usize
-    requires words_value { tested (record { state = words_of state; pages = pages.now; bytes = bytes.now; words = words.now }) ≡ Passed }
-    requires text_limit_in_bounds { text_limit ≤ length sheet.old }
+fn put_left(
+    state: State,
+    pages: &[u64],
+    bytes: &[u8],
+    words: &[u64],
+    sheet: &mut [u8; TEXT_LIMIT + 1],
+) -> usize
+    requires { tested (record { state = words_of state; pages = pages.now; bytes = bytes.now; words = words.now }) ≡ Ok tt }
     ensures fits { result ≤ length sheet.new }
     ensures text { take result sheet.new ≡ text_of (saved_of (record { state = words_of state; pages = pages.now; bytes = bytes.now; words = words.now })) }
 {
-    let fields = state.words();
-    match sheet_write::write(&fields, pages, bytes, words, sheet) {
-        Writing::Done(long) => long,
-        // Neither can be: the run is not refused, and every such sheet has room.
-        Writing::Refused(_) => 0,
-        Writing::TooLong(_) => 0,
-    }
+    let fields: [u64; FIELDS] = state.into();
+    let parts = Parts {
+        state: &fields,
+        pages,
+        bytes,
+        words,
+    };
+    // It cannot fail: the run is not refused, and every such sheet has room.
+    sheet_write::write(parts, sheet).unwrap_or(0)
 }
 
 // The words of so many instructions, which are never more than there are.
+#[tactic(auto, using(crate::proofs::RunLaws::nothing_left))]
 fn done_words(count: usize, words: usize) -> usize
     ensures { (result ≤ words) × ((list : List ℕ) → length list ≡ words → drop result list ≡ drop (4 * count) list) }
 {
-    if words / INSTRUCTION_WORDS < count {
-        return words;
-    }
-    INSTRUCTION_WORDS * count
+    INSTRUCTION_WORDS.saturating_mul(count).min(words)
 }
 
 // Runs what passed its tests.
+#[tactic(auto, unfolding(crate::specs::Outcome::answered), using(crate::proofs::RunLaws::left_words))]
 fn run(
     start: State,
     pages: &[u64],
     bytes: &mut [u8],
     words: &[u64],
-    line: &mut [u8],
-    sheet: &mut [u8],
+    line: &mut [u8; ANSWER_LINE],
+    sheet: &mut [u8; TEXT_LIMIT + 1],
 ) -> Fronts
-    requires words_value { tested (record { state = words_of start; pages = pages.now; bytes = bytes.old; words = words.now }) ≡ Passed }
-    requires in_bounds { (97 ≤ length line.old) × (text_limit ≤ length sheet.old) }
+    requires { tested (record { state = words_of start; pages = pages.now; bytes = bytes.old; words = words.now }) ≡ Ok tt }
     ensures { Holds (answered (input_of start pages.now bytes.old words.now)) line.new sheet.new result }
 {
     let replayed = replay::run(start, pages, bytes, words);
     let done = done_words(replayed.count, words.len());
-    let sheet_front = put_left(replayed.state, pages, bytes, &words[done..], sheet);
-    let answer = replayed.answer;
-    let line_front = put_answer(replayed.count, answer, line);
-    Fronts {
-        line: line_front,
-        sheet: sheet_front,
-    }
-}
-
-// Zeros, of which a contract says how many.
-fn text_buffer() -> [u8; TEXT_LIMIT + 1]
-    ensures { 413251 ≡ length result }
-{
-    [0; TEXT_LIMIT + 1]
-}
-
-fn byte_buffer() -> [u8; PAGE_LIMIT * PAGE_BYTES]
-    ensures { 65536 ≡ length result }
-{
-    [0; PAGE_LIMIT * PAGE_BYTES]
-}
-
-fn word_buffer() -> [u64; INSTRUCTION_LIMIT * INSTRUCTION_WORDS]
-    ensures { 4096 ≡ length result }
-{
-    [0; INSTRUCTION_LIMIT * INSTRUCTION_WORDS]
+    let sheet = put_left(replayed.state, pages, bytes, &words[done..], sheet);
+    let line = put_answer(replayed.count, replayed.answer, line);
+    Fronts { line, sheet }
 }
 
 // What comes of a text.
-fn outcome(text: &[u8], line: &mut [u8], sheet: &mut [u8]) -> Fronts
-    requires { (97 ≤ length line.old) × (text_limit ≤ length sheet.old) }
+fn outcome(text: &[u8], line: &mut [u8; ANSWER_LINE], sheet: &mut [u8; TEXT_LIMIT + 1]) -> Fronts
     ensures { Holds (outcome_of text.now) line.new sheet.new result }
 {
     if TEXT_LIMIT < text.len() {
@@ -148,34 +124,32 @@ fn outcome(text: &[u8], line: &mut [u8], sheet: &mut [u8]) -> Fronts
     }
     let mut state = [0u64; FIELDS];
     let mut pages = [0u64; PAGE_LIMIT];
-    let mut bytes = byte_buffer();
-    let mut words = word_buffer();
+    let mut bytes = [0u8; PAGE_LIMIT * PAGE_BYTES];
+    let mut words = [0u64; INSTRUCTION_LIMIT * INSTRUCTION_WORDS];
     match sheet_read::read(text, &mut state, &mut pages, &mut bytes, &mut words) {
-        Reading::Done(sizes) => {
+        Ok(sizes) => {
             // What was read has its ten fields.
-            let Formed::Whole(start) = state_words::state_of(&state) else {
-                return refuse(Refusal::State.number(), 0, line);
+            let Some(start) = state_words::state_of(&state) else {
+                return refuse(Refusal::State.into(), 0, line);
             };
-            let listed = sizes.pages;
-            let lent = sizes.bytes;
-            let held = sizes.words;
             run(
                 start,
-                &pages[..listed],
-                &mut bytes[..lent],
-                &words[..held],
+                &pages[..sizes.pages],
+                &mut bytes[..sizes.bytes],
+                &words[..sizes.words],
                 line,
                 sheet,
             )
         }
-        Reading::NoSheet(row) => refuse(NO_SHEET, row as u64, line),
-        Reading::Refused(refusal) => refuse(refusal.number(), 0, line),
+        Err(ReadError::NoSheet(row)) => refuse(NO_SHEET, row as u64, line),
+        Err(ReadError::Refused(refusal)) => refuse(refusal.into(), 0, line),
         // This cannot be: there is room for every run that is not refused.
-        Reading::TooLong(sizes) => refuse(NO_ROOM, 0, line),
+        Err(ReadError::TooLong(_)) => refuse(NO_ROOM, 0, line),
     }
 }
 
 // Reads until the buffer is full or the input ends, and says how many bytes that were.
+// By `while`: each turn goes on by as many bytes as the reader gave, and not by one.
 fn read_full<R: Read>(from: &mut R, out: &mut [u8]) -> io::Result<usize>
     ensures { IfOk result (λ n. n ≤ length out.new) }
 {
@@ -191,10 +165,10 @@ fn read_full<R: Read>(from: &mut R, out: &mut [u8]) -> io::Result<usize>
 }
 
 fn main(rt: HostRuntime) -> io::Result<()> {
-    let mut text = text_buffer();
+    let mut text = [0u8; TEXT_LIMIT + 1];
     let n = read_full(&mut rt.stdin(), &mut text)?;
     let mut line = [0u8; ANSWER_LINE];
-    let mut sheet = text_buffer();
+    let mut sheet = [0u8; TEXT_LIMIT + 1];
     let fronts = outcome(&text[..n], &mut line, &mut sheet);
     rt.write_all(&line[..fronts.line])?;
     rt.write_all(&sheet[..fronts.sheet])

@@ -4,7 +4,7 @@
 --     page_and_offset                      an address is its page's address and the offset there
 --     page_end                             a page of 64-bit addresses ends at 2^64 or before
 -- Page lists:
---     none_passes, each_fails              no entry passes a test (`any_entry`), exactly where none passes at any place (`EachFails`)
+--     none_passes, each_fails              no entry passes a test (`list_any`), exactly where none passes at any place (`EachFails`)
 --     once_apart, apart_once               no page address stands twice (`repeated`), exactly where entries of one page are one entry (`Apart`)
 --     valid_list, list_valid               a list is valid (`listing`) exactly where it breaks none of the four rules (`ValidList`)
 --     neither                              neither of two tests passes

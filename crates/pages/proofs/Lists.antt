@@ -1,14 +1,10 @@
 -- Where a page lies, and what a page list has that breaks no rule, by the places of the entries. Assumes nothing.
-use Prim.Native.Nat.{ℕ, zero, suc, ◌+◌, ◌*◌, ◌/◌, ◌%◌, ◌^◌, ◌<◌, ◌≤◌}
-use mathlib.Core.Path.{◌≡◌, refl, sym, ap}
-use mathlib.Core.Bool.{Bool, true, false, not, cond, ◌||◌, true≢false}
-use mathlib.Core.List.{List, [], ◌∷◌}
-use native.Mathlib.Omega.{arith}
-use lib.ListN.{length, get_or}
-use lib.Dec.{eqb, ltb}
-use borrow.Author.Tests.{lt-ltb, le-ltb, eq-eqb, ne_eqb, eqb-true, eqb-false, ltb-false, not-false}
-use Rattle.pages.specs.Pages.{page_bytes, page_limit, page_of, wrong_length, bad_kind, bad_address, on_page, any_entry, repeated, listing}
-use Rattle.pages.specs.declared.pages.Listing.TheVariants.{Valid, BadLength, BadKind, BadAddress, Repeated}
+use Rattle.std.proofs.Common.{◌≡◌, ℕ, zero, suc, ◌+◌, ◌*◌, ◌/◌, ◌%◌, ◌^◌, ◌<◌, ◌≤◌, refl, sym, ap, Bool, true, false, not, cond, ◌||◌, true≢false, List, [], ◌∷◌, length, get_or, eqb, ltb, Result, Ok, Err, arith, lt-ltb, le-ltb, eq-eqb, ne_eqb, eqb-true, ltb-false}
+use borrow.Author.Tests.{eqb-false, not-false}
+use Rattle.std.specs.List.{list_any}
+use Rattle.pages.specs.Pages.{page_bytes, page_limit, page_of, wrong_length, bad_kind, bad_address, on_page, repeated, listing}
+use Rattle.pages.specs.declared.pages.ListError.{ListError}
+use Rattle.pages.specs.declared.pages.ListError.TheVariants.{BadLength, BadKind, BadAddress, Repeated}
 
 -- ---- a page
 
@@ -33,14 +29,12 @@ neither false b e = (refl, e)
 abbrev pub EachFails : (ℕ → Bool) → List ℕ → Type 0
 EachFails test entries = (i : ℕ) → i < length entries → test (get_or entries i 0) ≡ false
 
-pub none_passes : (test : ℕ → Bool) (entries : List ℕ) → any_entry test entries ≡ false → EachFails test entries
-unfolding any_entry
+pub none_passes : (test : ℕ → Bool) (entries : List ℕ) → list_any test entries ≡ false → EachFails test entries
 none_passes test [] e i h = absurd (omega arith)
-none_passes test (entry ∷ rest) e zero h = (neither (test entry) (any_entry test rest) e).0
-none_passes test (entry ∷ rest) e (suc i) h = none_passes test rest (neither (test entry) (any_entry test rest) e).1 i (omega arith)
+none_passes test (entry ∷ rest) e zero h = (neither (test entry) (list_any test rest) e).0
+none_passes test (entry ∷ rest) e (suc i) h = none_passes test rest (neither (test entry) (list_any test rest) e).1 i (omega arith)
 
-pub each_fails : (test : ℕ → Bool) (entries : List ℕ) → EachFails test entries → any_entry test entries ≡ false
-unfolding any_entry
+pub each_fails : (test : ℕ → Bool) (entries : List ℕ) → EachFails test entries → list_any test entries ≡ false
 each_fails test [] each = refl
 each_fails test (entry ∷ rest) each = rw (each 0 (omega arith)) (each_fails test rest (λ i h. each (suc i) (omega arith)))
 
@@ -54,9 +48,9 @@ same_number : (a b : ℕ) → b / page_bytes * page_bytes ≡ a / page_bytes * p
 same_number a b e = omega arith
 
 -- the first entry's page is no other's, and so on
-once_parts : (entry : ℕ) (rest : List ℕ) → repeated (entry ∷ rest) ≡ false → (any_entry (on_page (page_of entry)) rest ≡ false) × (repeated rest ≡ false)
+once_parts : (entry : ℕ) (rest : List ℕ) → repeated (entry ∷ rest) ≡ false → (list_any (on_page (page_of entry)) rest ≡ false) × (repeated rest ≡ false)
 unfolding repeated
-once_parts entry rest once = neither (any_entry (on_page (page_of entry)) rest) (repeated rest) once
+once_parts entry rest once = neither (list_any (on_page (page_of entry)) rest) (repeated rest) once
 
 first_apart : (entry : ℕ) (rest : List ℕ) → repeated (entry ∷ rest) ≡ false → (j : ℕ) → j < length rest → entry / page_bytes ≡ get_or rest j 0 / page_bytes → ⊥
 unfolding on_page page_of
@@ -86,11 +80,11 @@ apart_once (entry ∷ rest) apart =
 pub record ValidList (entries : List ℕ) (lent : ℕ) : Type 0 where
   pub few : length entries ≤ page_limit
   pub whole : lent ≡ page_bytes * length entries
-  pub kinds : any_entry bad_kind entries ≡ false
-  pub addresses : any_entry bad_address entries ≡ false
+  pub kinds : list_any bad_kind entries ≡ false
+  pub addresses : list_any bad_address entries ≡ false
   pub apart : repeated entries ≡ false
 
-none_broken : (a b c d : Bool) → cond a BadLength (cond b BadKind (cond c BadAddress (cond d Repeated Valid))) ≡ Valid
+none_broken : (a b c d : Bool) → ◌≡◌ {A = Result (Unit {0}) ListError} (cond a (Err BadLength) (cond b (Err BadKind) (cond c (Err BadAddress) (cond d (Err Repeated) (Ok tt))))) (Ok tt)
     → (a ≡ false) × (b ≡ false) × (c ≡ false) × (d ≡ false)
 none_broken true b c d e = let z : ◌≡◌ {A = ℕ} 0 1 = cc in absurd (omega arith)
 none_broken false true c d e = let z : ◌≡◌ {A = ℕ} 0 1 = cc in absurd (omega arith)
@@ -98,10 +92,10 @@ none_broken false false true d e = let z : ◌≡◌ {A = ℕ} 0 1 = cc in absur
 none_broken false false false true e = let z : ◌≡◌ {A = ℕ} 0 1 = cc in absurd (omega arith)
 none_broken false false false false e = (refl, refl, refl, refl)
 
-pub valid_list : (entries : List ℕ) (lent : ℕ) → listing entries lent ≡ Valid → ValidList entries lent
+pub valid_list : (entries : List ℕ) (lent : ℕ) → listing entries lent ≡ Ok tt → ValidList entries lent
 unfolding listing wrong_length
 valid_list entries lent e =
-    let tests = none_broken (wrong_length (length entries) lent) (any_entry bad_kind entries) (any_entry bad_address entries) (repeated entries) e in
+    let tests = none_broken (wrong_length (length entries) lent) (list_any bad_kind entries) (list_any bad_address entries) (repeated entries) e in
     let right = neither (ltb page_limit (length entries)) (not (eqb lent (page_bytes * length entries))) tests.0 in
     record {
       few = ltb-false page_limit (length entries) right.0;
@@ -111,11 +105,11 @@ valid_list entries lent e =
       apart = tests.3;
     }
 
-pub list_valid : (entries : List ℕ) (lent : ℕ) → ValidList entries lent → listing entries lent ≡ Valid
+pub list_valid : (entries : List ℕ) (lent : ℕ) → ValidList entries lent → listing entries lent ≡ Ok tt
 unfolding listing wrong_length
 list_valid entries lent h = rw (le-ltb page_limit (length entries) h.few, eq-eqb lent (page_bytes * length entries) h.whole, h.kinds, h.addresses, h.apart)
 
 -- refusal 1 comes before all else
-pub too_many_entries : (entries : List ℕ) (lent : ℕ) → page_limit < length entries → listing entries lent ≡ BadLength
+pub too_many_entries : (entries : List ℕ) (lent : ℕ) → page_limit < length entries → listing entries lent ≡ Err BadLength
 unfolding listing wrong_length
 too_many_entries entries lent more = rw (lt-ltb page_limit (length entries) more)

@@ -1,10 +1,10 @@
 -- The page list: its entries, when it is refused, and what an address leads to (docs/RULES.md, "Pages", "Refusals"). Assumes nothing.
-use Rattle.std.specs.Prelude.{ℕ, suc, ◌+◌, ◌*◌, ◌/◌, ◌%◌, Bool, false, not, cond, ◌||◌, List, [], ◌∷◌, length, eqb, ltb}
+use Rattle.std.specs.Prelude.{ℕ, suc, ◌+◌, ◌*◌, ◌/◌, ◌%◌, Bool, false, not, cond, ◌||◌, List, [], ◌∷◌, length, eqb, ltb, Option, Some, None, Result, Ok, Err}
+use Rattle.std.specs.List.{list_any}
 use Rattle.addresses.specs.Address.{canonical}
-use Rattle.pages.specs.declared.pages.Listing.{Listing}
-use Rattle.pages.specs.declared.pages.Listing.TheVariants.{Valid, BadLength, BadKind, BadAddress, Repeated}
+use Rattle.pages.specs.declared.pages.ListError.{ListError}
+use Rattle.pages.specs.declared.pages.ListError.TheVariants.{BadLength, BadKind, BadAddress, Repeated}
 use Rattle.pages.specs.declared.pages.Spot.{Spot}
-use Rattle.pages.specs.declared.pages.Spot.TheVariants.{Unlisted, At}
 
 -- In all that follows `lent` is how many bytes were lent for the list.
 
@@ -55,28 +55,22 @@ bad_address entry = not (canonical (page_of entry))
 unfoldable pub on_page : ℕ → ℕ → Bool
 on_page page entry = eqb (page_of entry) page
 
--- some entry passes a test
-unfoldable pub any_entry : (ℕ → Bool) → List ℕ → Bool
-any_entry test [] = false
-any_entry test (entry ∷ rest) = test entry || any_entry test rest
-
 -- refusal 4: a page address stands twice
 unfoldable pub repeated : List ℕ → Bool
 repeated [] = false
-repeated (entry ∷ rest) = any_entry (on_page (page_of entry)) rest || repeated rest
+repeated (entry ∷ rest) = list_any (on_page (page_of entry)) rest || repeated rest
 
 -- The first rule that the list breaks anywhere decides; a list that breaks none is valid (the papers' term).
-unfoldable pub listing : List ℕ → ℕ → Listing
+unfoldable pub listing : List ℕ → ℕ → Result (Unit {0}) ListError
 listing pages lent =
-    cond (wrong_length (length pages) lent) BadLength
-    (cond (any_entry bad_kind pages) BadKind
-    (cond (any_entry bad_address pages) BadAddress
-    (cond (repeated pages) Repeated
-    Valid)))
+    cond (wrong_length (length pages) lent) (Err BadLength)
+    (cond (list_any bad_kind pages) (Err BadKind)
+    (cond (list_any bad_address pages) (Err BadAddress)
+    (cond (repeated pages) (Err Repeated)
+    (Ok tt))))
 
--- the number that each answer has
-abbrev pub refusal_number : Listing → ℕ
-refusal_number Valid = 0
+-- the number that each refusal has
+abbrev pub refusal_number : ListError → ℕ
 refusal_number BadLength = 1
 refusal_number BadKind = 2
 refusal_number BadAddress = 3
@@ -84,17 +78,17 @@ refusal_number Repeated = 4
 
 -- ---- what an address leads to
 
--- where addresses lead: to no listed page, or to a page of a kind and a place among the lent bytes
+-- where addresses lead: to no listed page (`None`), or to a page of a kind and a place among the lent bytes
 abbrev pub Lookup : Type 0
-Lookup = ℕ → Spot
+Lookup = ℕ → Option Spot
 
 -- on the page of the i-th entry, whose bytes begin at 4,096 * i. A page that was not lent whole counts as not listed
-unfoldable pub in_page : ℕ → ℕ → ℕ → ℕ → Spot
-in_page i entry lent address = cond (ltb i (lent / page_bytes)) (At (kind_of entry) (page_bytes * i + address % page_bytes)) Unlisted
+unfoldable pub in_page : ℕ → ℕ → ℕ → ℕ → Option Spot
+in_page i entry lent address = cond (ltb i (lent / page_bytes)) (Some (record { kind = kind_of entry; place = page_bytes * i + address % page_bytes })) None
 
 -- the entries from the i-th on
 unfoldable pub spot_from : ℕ → List ℕ → ℕ → Lookup
-spot_from i [] lent address = Unlisted
+spot_from i [] lent address = None
 spot_from i (entry ∷ rest) lent address = cond (on_page (page_of address) entry) (in_page i entry lent address) (spot_from (suc i) rest lent address)
 
 -- a page list with `lent` bytes

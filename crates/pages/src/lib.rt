@@ -3,4 +3,4 @@
 
 mod pages;
 
-pub use pages::{Listing, PAGE_BYTES, PAGE_LIMIT, Spot, find, page_of};
+pub use pages::{ListError, PAGE_BYTES, PAGE_LIMIT, Spot, check_list, find, page_of};

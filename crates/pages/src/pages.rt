@@ -2,8 +2,8 @@
 //
 // An entry is a page's address with the page's kind in its low 12 bits. Entry i owns the lent bytes from 4,096 * i on.
 ghost use Rattle.std.specs.Prelude.{◌≡◌};
-ghost use Rattle.pages.specs.Pages.{page_of, kind_of, any_entry, wrong_length, repeated as repeated_of, listing, refusal_number, in_page, spot};
-ghost use Rattle.pages.specs.Search.{meets as meets_of};
+ghost use Rattle.std.specs.List.{list_any};
+ghost use Rattle.pages.specs.Pages.{page_of, kind_of, wrong_length, bad_kind as bad_kind_of, bad_address as bad_address_of, on_page as on_page_of, repeated as repeated_of, listing, refusal_number, in_page, spot};
 
 use addresses::canonical;
 
@@ -13,10 +13,9 @@ pub const PAGE_BYTES: usize = 4096;
 // How many entries a page list may have.
 pub const PAGE_LIMIT: usize = 16;
 
-// What a page list and its bytes are: valid, or refused for the first of these reasons.
+// Why a page list is refused.
 #[derive(Clone, Copy)]
-pub enum Listing {
-    Valid,
+pub enum ListError {
     // Too many entries, or a byte length that is not 4,096 for each.
     BadLength,
     // An entry whose kind is none of the three.
@@ -27,144 +26,150 @@ pub enum Listing {
     Repeated,
 }
 
-// What an address leads to.
-#[derive(Clone, Copy)]
-pub enum Spot {
-    // No listed page.
-    Unlisted,
-    // A page of this kind, and the byte at this place among the lent bytes.
-    At(u64, usize),
+// The number of the refusal.
+impl From<ListError> for u64 {
+    ghost from_gives = { λ error n. n ≡ refusal_number error };
+
+    fn from(error: ListError) -> u64 {
+        match error {
+            ListError::BadLength => 1,
+            ListError::BadKind => 2,
+            ListError::BadAddress => 3,
+            ListError::Repeated => 4,
+        }
+    }
 }
 
-// What a search of the entries looks for.
+// Where an address on a listed page leads.
 #[derive(Clone, Copy)]
-enum Sought {
-    BadKind,
-    BadAddress,
-    OnPage(u64),
+pub struct Spot {
+    // The page's kind, as its entry says it: a number, since any list can be searched, also one whose entry is of no kind there is.
+    pub kind: u64,
+    // The byte's place among the lent bytes.
+    pub place: usize,
 }
 
 // The address of the page that a byte lies on; of an entry, its page address.
+#[tactic(auto, unfolding(crate::specs::Pages::page_of))]
 pub fn page_of(n: u64) -> u64
     ensures { result ≡ page_of n }
 {
     n / (PAGE_BYTES as u64) * (PAGE_BYTES as u64)
 }
 
+#[tactic(auto, unfolding(crate::specs::Pages::kind_of))]
 fn kind_of(entry: u64) -> u64
     ensures { result ≡ kind_of entry }
 {
     entry % (PAGE_BYTES as u64)
 }
 
-fn meets(sought: Sought, entry: u64) -> bool
-    ensures { result ≡ meets_of sought entry }
-{
-    match sought {
-        Sought::BadKind => {
-            let kind = kind_of(entry);
-            if kind == 0 { true } else { kind > 3 }
-        }
-        Sought::BadAddress => !canonical(page_of(entry)),
-        Sought::OnPage(page) => page_of(entry) == page,
-    }
-}
-
-// Whether some entry is one that is sought.
-fn any_entry(pages: &[u64], sought: Sought) -> bool
-    ensures { result ≡ any_entry (meets_of sought) pages.now }
-{
-    let mut i = 0;
-    while i < pages.len() {
-        if meets(sought, pages[i]) {
-            return true;
-        }
-        i += 1;
-    }
-    false
-}
-
-fn repeated(pages: &[u64]) -> bool
-    ensures { result ≡ repeated_of pages.now }
-{
-    let mut i = 0;
-    while i < pages.len() {
-        let page = page_of(pages[i]);
-        i += 1;
-        if any_entry(&pages[i..], Sought::OnPage(page)) {
-            return true;
-        }
-    }
-    false
-}
-
+#[tactic(auto, unfolding(crate::specs::Pages::wrong_length))]
 fn wrong_length(entries: usize, lent: usize) -> bool
     ensures { result ≡ wrong_length entries lent }
 {
-    if PAGE_LIMIT < entries {
-        return true;
-    }
-    lent != PAGE_BYTES * entries
+    PAGE_LIMIT < entries || lent != PAGE_BYTES * entries
 }
 
-impl Listing {
-    // Tests a page list with the number of bytes lent for it. Each rule is tested over the whole list before the next.
-    pub fn of(pages: &[u64], lent: usize) -> Listing
-        ensures { result ≡ listing pages.now lent }
-    {
-        if wrong_length(pages.len(), lent) {
-            return Listing::BadLength;
-        }
-        if any_entry(pages, Sought::BadKind) {
-            return Listing::BadKind;
-        }
-        if any_entry(pages, Sought::BadAddress) {
-            return Listing::BadAddress;
-        }
-        if repeated(pages) {
-            return Listing::Repeated;
-        }
-        Listing::Valid
-    }
+fn bad_kind(entry: u64) -> bool
+    ensures { result ≡ bad_kind_of entry }
+{
+    let kind = kind_of(entry);
+    kind == 0 || 3 < kind
+}
 
-    // The number of the refusal, or 0.
-    pub fn number(self) -> u64
-        ensures { result ≡ refusal_number self }
-    {
-        match self {
-            Listing::Valid => 0,
-            Listing::BadLength => 1,
-            Listing::BadKind => 2,
-            Listing::BadAddress => 3,
-            Listing::Repeated => 4,
+// These three stand by themselves: with the chains in `check_list` and `repeated` the prover gives up there.
+fn any_bad_kind(pages: &[u64]) -> bool
+    ensures { result ≡ list_any bad_kind_of pages.now }
+{
+    pages.iter().any(|entry| bad_kind(*entry))
+}
+
+#[tactic(auto, unfolding(crate::specs::Pages::bad_address))]
+fn bad_address(entry: u64) -> bool
+    ensures { result ≡ bad_address_of entry }
+{
+    !canonical(page_of(entry))
+}
+
+fn any_bad_address(pages: &[u64]) -> bool
+    ensures { result ≡ list_any bad_address_of pages.now }
+{
+    pages.iter().any(|entry| bad_address(*entry))
+}
+
+#[tactic(auto, unfolding(crate::specs::Pages::on_page))]
+fn on_page(page: u64, entry: u64) -> bool
+    ensures { result ≡ on_page_of page entry }
+{
+    page_of(entry) == page
+}
+
+fn any_on_page(page: u64, pages: &[u64]) -> bool
+    ensures { result ≡ list_any (on_page_of page) pages.now }
+{
+    pages.iter().any(|entry| on_page(page, *entry))
+}
+
+// Whether an entry's page address is also that of a later one.
+#[tactic(auto, using(crate::proofs::Steps::repeated_turn, crate::proofs::Steps::repeated_end, crate::proofs::Steps::rest_any))]
+fn repeated(pages: &[u64]) -> bool
+    ensures { result ≡ repeated_of pages.now }
+{
+    for (i, entry) in pages.iter().enumerate() {
+        if any_on_page(page_of(*entry), &pages[i + 1..]) {
+            return true;
         }
     }
+    false
+}
+
+// Tests a page list with the number of bytes lent for it. Each rule is tested over the whole list before the next.
+#[tactic(auto, unfolding(crate::specs::Pages::listing))]
+pub fn check_list(pages: &[u64], lent: usize) -> Result<(), ListError>
+    ensures { result ≡ listing pages.now lent }
+{
+    if wrong_length(pages.len(), lent) {
+        return Err(ListError::BadLength);
+    }
+    if any_bad_kind(pages) {
+        return Err(ListError::BadKind);
+    }
+    if any_bad_address(pages) {
+        return Err(ListError::BadAddress);
+    }
+    if repeated(pages) {
+        return Err(ListError::Repeated);
+    }
+    Ok(())
 }
 
 // Where an address on the i-th entry's page leads. A page that was not lent whole counts as not listed.
-fn in_page(i: usize, entry: u64, lent: usize, address: u64) -> Spot
+#[tactic(auto, unfolding(crate::specs::Pages::in_page))]
+fn in_page(i: usize, entry: u64, lent: usize, address: u64) -> Option<Spot>
     ensures { result ≡ in_page i entry lent address }
 {
     if i < lent / PAGE_BYTES {
         let offset = (address as usize) % PAGE_BYTES;
-        Spot::At(kind_of(entry), PAGE_BYTES * i + offset)
+        Some(Spot {
+            kind: kind_of(entry),
+            place: PAGE_BYTES * i + offset,
+        })
     } else {
-        Spot::Unlisted
+        None
     }
 }
 
-// What an address leads to, where `lent` bytes are lent for these pages.
-pub fn find(pages: &[u64], lent: usize, address: u64) -> Spot
+// What an address leads to, where `lent` bytes are lent for these pages: none where it is on no listed page.
+#[tactic(auto, unfolding(crate::specs::Pages::spot), using(crate::proofs::Steps::spot_turn, crate::proofs::Steps::spot_end))]
+pub fn find(pages: &[u64], lent: usize, address: u64) -> Option<Spot>
     ensures { result ≡ spot pages.now lent address }
 {
     let page = page_of(address);
-    let mut i = 0;
-    while i < pages.len() {
-        let entry = pages[i];
-        if page_of(entry) == page {
-            return in_page(i, entry, lent, address);
+    for (i, entry) in pages.iter().enumerate() {
+        if on_page(page, *entry) {
+            return in_page(i, *entry, lent, address);
         }
-        i += 1;
     }
-    Spot::Unlisted
+    None
 }

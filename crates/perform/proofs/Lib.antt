@@ -1,2 +1,2 @@
 -- Laws of one instruction.
-pub mod ExecLaws
+mod ExecLaws

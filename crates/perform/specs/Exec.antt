@@ -1,6 +1,6 @@
 -- One instruction of any instruction set: the form is tested, then its program runs (docs/RULES.md, "Refusals and answers"). What
 -- holds of every instruction set, as demand 3, is shown over these definitions. Assumes nothing.
-use Rattle.std.specs.Prelude.{ℕ, Bool, cond, List}
+use Rattle.std.specs.Prelude.{ℕ, Bool, cond, List, Option}
 use Rattle.pages.specs.Pages.{Lookup}
 use Rattle.processor.specs.State.{permitted}
 use Rattle.processor.specs.Prog.{Prog, done, ◌>>=◌, ◌>>◌, Step, operate}
@@ -22,7 +22,7 @@ pub record InstructionSet : Type 0 where
   pub operation : Instruction → State → Prog State
 
 -- WRSS, which alone is told whether it is permitted, or another program
-abbrev pub or_wrss : Operation → Instruction → Bool → State → Prog State → Prog State
+abbrev pub or_wrss : Option Operation → Instruction → Bool → State → Prog State → Prog State
 or_wrss op i allowed s other = cond (is_wrss op) (wrss (wrss_size op) allowed i.a i.b i.length s) other
 
 -- what an instruction does itself, by the state that operations see

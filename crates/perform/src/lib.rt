@@ -1,16 +1,15 @@
 // A single operation: the form of an instruction, its dispatch, and the permission bits around it.
 #![tactic(auto)]
 
-ghost use Rattle.std.specs.Prelude.{◌≡◌};
+ghost use Rattle.std.specs.Prelude.{◌≡◌, Some};
 ghost use Rattle.accesses.specs.Access.{lookup_of};
 ghost use Rattle.processor.specs.Prog.{operate};
-ghost use Rattle.processor.specs.Outcomes.{step_of};
+ghost use Rattle.processor.specs.Outcomes.{step_of, ended_by};
 ghost use Rattle.perform.specs.Exec.{or_wrss, perform as perform_of};
-ghost use Rattle.perform.specs.Unhidden.{unhidden};
 ghost use Rattle.perform.specs.Codes.{codes, target as target_of, framed as framed_of, program};
 
 use instructions::{Instruction, Operation, Target, hidden, shown};
-use processor::{Answer, Outcome, Refusal, State, Vector};
+use processor::{Answer, Fault, Outcome, Refusal, State};
 
 // Where a call goes.
 fn call_target(target: Target, step: Instruction, state: State) -> u64
@@ -40,57 +39,44 @@ fn dispatch(
     state: State,
     pages: &[u64],
     bytes: &mut [u8],
-) -> Outcome
-    ensures { step_of result bytes.new ≡ operate (lookup_of pages.now bytes.old) (or_wrss operation step permitted state (program operation step state)) state bytes.old }
+) -> Result<State, Fault>
+    ensures { step_of (ended_by state result) bytes.new ≡ operate (lookup_of pages.now bytes.old) (or_wrss (Some operation) step permitted state (program operation step state)) state bytes.old }
 {
-    let span = step.length;
-    let a = step.a;
-    let b = step.b;
+    let Instruction { length, a, b, .. } = step;
     match operation {
-        Operation::Incssp(size) => incssp::execute(state, pages, bytes, size, b, span),
-        Operation::Rstorssp => rstorssp::execute(state, pages, bytes, a, span),
-        Operation::Saveprevssp => saveprevssp::execute(state, pages, bytes, span),
-        Operation::Wrss(size) => wrss::execute(state, permitted, pages, bytes, size, a, b, span),
+        Operation::Incssp(size) => incssp::execute(state, pages, bytes, size, b, length),
+        Operation::Rstorssp => rstorssp::execute(state, pages, bytes, a, length),
+        Operation::Saveprevssp => saveprevssp::execute(state, pages, bytes, length),
+        Operation::Wrss(size) => wrss::execute(state, permitted, pages, bytes, size, a, b, length),
         Operation::Call(target) => {
             let to = call_target(target, step, state);
-            call::execute(state, pages, bytes, to, framed(target, step), span)
+            call::execute(state, pages, bytes, to, framed(target, step), length)
         }
         Operation::Ret(_) => ret::execute(state, pages, bytes, a),
-        Operation::Wruss(size) => wruss::execute(state, pages, bytes, size, a, b, span),
-        Operation::Unknown => state.fail(processor::fault(Vector::InvalidOpcode)),
+        Operation::Wruss(size) => wruss::execute(state, pages, bytes, size, a, b, length),
     }
 }
 
-// The outcome with the permission bits of the state before it.
-fn unhide(before: State, outcome: Outcome) -> Outcome
-    ensures { result ≡ unhidden before outcome.state outcome.answer }
-{
-    let answer = outcome.answer;
-    match answer {
-        Answer::Completed => Outcome {
-            answer,
-            state: shown(before, outcome.state),
-        },
-        Answer::Refused(refusal) => before.refuse(refusal),
-        Answer::Faulted(fault) => before.fail(fault),
-    }
-}
-
-// One instruction on a state and the lent bytes; a malformed one gets refusal 6.
+// One instruction on a state and the lent bytes; a malformed one, or one of no code that is known, gets refusal 6.
 pub fn perform(step: Instruction, state: State, pages: &[u64], bytes: &mut [u8]) -> Outcome
     ensures { step_of result bytes.new ≡ perform_of codes (lookup_of pages.now bytes.old) step state bytes.old }
 {
-    let operation = Operation::of(step.code);
-    if !operation.fits(step, state.mode) {
-        return state.refuse(Refusal::Instruction);
-    }
-    let outcome = dispatch(
+    let operation = match Operation::try_from(step.code) {
+        Ok(operation) if operation.fits(step, state.mode) => operation,
+        _ => return state.refuse(Refusal::Instruction),
+    };
+    match dispatch(
         operation,
         step,
         state.permitted(),
         hidden(state),
         pages,
         bytes,
-    );
-    unhide(state, outcome)
+    ) {
+        Ok(after) => Outcome {
+            answer: Answer::Completed,
+            state: shown(state, after),
+        },
+        Err(fault) => state.fail(fault),
+    }
 }

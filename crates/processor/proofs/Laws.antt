@@ -2,40 +2,33 @@
 --
 --     passed, halted          `unless`: the test passes, or the fault comes
 --     entered, skipped        `only_if`
---     loaded, not_loaded      `load`, by what the memory's load gave
+--     loaded, not_loaded      `load`, by what the memory's load gave; `against` holds a failure against the access, as that load does
 --     touched, not_touched    `touch`, likewise
 --     stored, not_stored      `store`, by what trying gave
+--     made, not_made          what the memory's store leaves, likewise
 --     all_stored, none_stored    stores given as a list, `put_all`, by what trying them gave
+--     blamed                  the fault that `?` makes of an access that cannot be done
 --     continues, breaks       one program after another, by how the first ends
 --     completes, faults       a whole operation, by how its program ends
---     some_bytes, long_small, product    small numbers
-use Prim.Native.Nat.{ℕ, ◌*◌, ◌^◌, ◌<◌, ◌≤◌}
-use mathlib.Core.Path.{◌≡◌, refl, ◌∙◌, ap}
-use mathlib.Core.Bool.{Bool, true, false, cond}
-use mathlib.Core.List.{List, [], ◌∷◌}
-use native.Mathlib.Omega.{arith}
-use Rattle.numbers.specs.Numbers.{byte_count}
-use Rattle.accesses.specs.Access.{probe, value, written, load as load_at}
+use Rattle.std.proofs.Common.{ℕ, ◌≡◌, refl, ◌∙◌, ap, Bool, true, false, List, [], ◌∷◌, rules, Result, Ok, Err, IsErrAnd}
+use Rattle.accesses.specs.Access.{probe, value, written, loaded_if, stored_if, load as load_at, store as store_at}
 use Rattle.pages.specs.Pages.{Lookup}
 use Rattle.accesses.specs.declared.access.Access.{Access}
 use Rattle.accesses.specs.declared.reach.Failure.{Failure}
-use Rattle.accesses.specs.declared.reach.Reach.{Reach}
-use Rattle.accesses.specs.declared.reach.Reach.TheVariants.{Ready, Blocked}
-use Rattle.numbers.specs.declared.size.Size.{Size}
-use Rattle.numbers.specs.declared.size.Size.TheVariants.{Four, Eight}
-use Rattle.accesses.specs.declared.load.Loaded.TheVariants.{Value, Blocked as Unloaded}
-use Rattle.memory.proofs.Laws.{loaded_value, loaded_failure}
+use Rattle.memory.specs.Blocked.{against}
+use Rattle.memory.specs.declared.blocked.Blocked.{Blocked}
 use Rattle.stores.specs.Stores.{then_try, try_all, written_all}
-use Rattle.stores.specs.declared.Slot.{Slot}
-use Rattle.stores.specs.declared.Slot.TheVariants.{End, Store}
-use Rattle.stores.specs.declared.Stored.{Stored}
-use Rattle.stores.specs.declared.Stored.TheVariants.{AllStored, NoneStored}
+use Rattle.stores.specs.declared.Store.{Store}
 use Rattle.answers.specs.Blame.{blame}
-use Rattle.processor.specs.Prog.{Prog, done, stop, fetch, put, ◌>>=◌, ◌>>◌, load, touch, store, unless, only_if, Result, ended, broken, on_reach, interp, operate}
-use Rattle.processor.specs.State.{is_long, long_bit}
+use Rattle.processor.specs.Prog.{Prog, done, stop, fetch, put, ◌>>=◌, ◌>>◌, load, touch, store, unless, only_if, Ending, ended, broken, on_reach, interp, operate}
 use Rattle.answers.specs.declared.answer.Answer.TheVariants.{Completed, Faulted}
 use Rattle.answers.specs.declared.answer.Fault.{Fault}
 use Rattle.processor.specs.declared.state.State.{State}
+
+-- how a program goes on from what came of an access or of some stores
+go_on : {A B : Type 0} → Result B Blocked → (B → Ending A) → Ending A
+go_on (Ok found) go = go found
+go_on (Err b) go = broken (blame b.access b.failure)
 
 module _ (look : Lookup) (bytes : List ℕ) {A : Type 0} where
   pub passed : (t : Bool) (fault : Fault) (p : Prog A) → t ≡ true → interp look (unless t fault >> p) bytes ≡ interp look p bytes
@@ -53,29 +46,63 @@ module _ (look : Lookup) (bytes : List ℕ) {A : Type 0} where
   unfolding ◌>>=◌
   skipped t q p e = rw e
 
-  pub loaded : (a : Access) (f : ℕ → Prog A) (v : ℕ) → load_at look bytes a ≡ Value v → interp look (load a >>= f) bytes ≡ interp look (f v) bytes
-  unfolding ◌>>=◌ interp
-  loaded a f v e = let both = loaded_value look bytes a v e in rw (both.0, both.1)
+  fetched : (a : Access) (k : ℕ → Prog A) → interp look (fetch a k) bytes ≡ go_on (against a (load_at look bytes a)) (λ v. interp look (k v) bytes)
+  unfolding interp load_at go_on
+  fetched a k = go (probe look a) (value look bytes a)
+    where
+      go : (r : Result (Unit {0}) Failure) (v : ℕ) → on_reach a r (interp look (k v) bytes) ≡ go_on (against a (loaded_if r v)) (λ w. interp look (k w) bytes)
+      go (Ok x) v = refl
+      go (Err failure) v = refl
 
-  pub not_loaded : (a : Access) (f : ℕ → Prog A) (failure : Failure) → load_at look bytes a ≡ Unloaded failure → interp look (load a >>= f) bytes ≡ broken (blame a failure)
-  unfolding ◌>>=◌ interp
-  not_loaded a f failure e = rw (loaded_failure look bytes a failure e)
+  set : (a : Access) (v : ℕ) (p : Prog A) → interp look (put a v p) bytes ≡ go_on (against a (probe look a)) (λ x. interp look p (written look a v bytes))
+  unfolding interp go_on
+  set a v p = go (probe look a)
+    where
+      go : (r : Result (Unit {0}) Failure) → on_reach a r (interp look p (written look a v bytes)) ≡ go_on (against a r) (λ x. interp look p (written look a v bytes))
+      go (Ok x) = refl
+      go (Err failure) = refl
 
-  pub touched : (a : Access) (p : Prog A) (v : ℕ) → load_at look bytes a ≡ Value v → interp look (touch a >> p) bytes ≡ interp look p bytes
-  unfolding ◌>>=◌ interp
-  touched a p v e = rw (loaded_value look bytes a v e).0
+  pub loaded : (a : Access) (f : ℕ → Prog A) (v : ℕ) → against a (load_at look bytes a) ≡ Ok v → interp look (load a >>= f) bytes ≡ interp look (f v) bytes
+  unfolding ◌>>=◌ go_on
+  loaded a f v e = fetched a f ∙ rw e
 
-  pub not_touched : (a : Access) (p : Prog A) (failure : Failure) → load_at look bytes a ≡ Unloaded failure → interp look (touch a >> p) bytes ≡ broken (blame a failure)
-  unfolding ◌>>=◌ interp
-  not_touched a p failure e = rw (loaded_failure look bytes a failure e)
+  pub not_loaded : (a : Access) (f : ℕ → Prog A) (b : Blocked) → against a (load_at look bytes a) ≡ Err b → interp look (load a >>= f) bytes ≡ broken (blame b.access b.failure)
+  unfolding ◌>>=◌ go_on
+  not_loaded a f b e = fetched a f ∙ rw e
 
-  pub stored : (a : Access) (v : ℕ) (p : Prog A) → probe look a ≡ Ready → interp look (store a v >> p) bytes ≡ interp look p (written look a v bytes)
-  unfolding ◌>>=◌ interp
-  stored a v p e = rw e
+  pub touched : (a : Access) (p : Prog A) (v : ℕ) → against a (load_at look bytes a) ≡ Ok v → interp look (touch a >> p) bytes ≡ interp look p bytes
+  unfolding ◌>>=◌ go_on
+  touched a p v e = fetched a (λ v. p) ∙ rw e
 
-  pub not_stored : (a : Access) (v : ℕ) (p : Prog A) (failure : Failure) → probe look a ≡ Blocked failure → interp look (store a v >> p) bytes ≡ broken (blame a failure)
-  unfolding ◌>>=◌ interp
-  not_stored a v p failure e = rw e
+  pub not_touched : (a : Access) (p : Prog A) (b : Blocked) → against a (load_at look bytes a) ≡ Err b → interp look (touch a >> p) bytes ≡ broken (blame b.access b.failure)
+  unfolding ◌>>=◌ go_on
+  not_touched a p b e = fetched a (λ v. p) ∙ rw e
+
+  pub stored : (a : Access) (v : ℕ) (p : Prog A) → against a (probe look a) ≡ Ok tt → interp look (store a v >> p) bytes ≡ interp look p (written look a v bytes)
+  unfolding ◌>>=◌ go_on
+  stored a v p e = set a v p ∙ rw e
+
+  pub not_stored : (a : Access) (v : ℕ) (p : Prog A) (b : Blocked) → against a (probe look a) ≡ Err b → interp look (store a v >> p) bytes ≡ broken (blame b.access b.failure)
+  unfolding ◌>>=◌ go_on
+  not_stored a v p b e = set a v p ∙ rw e
+
+-- what the memory's store leaves, by what came of it
+module _ (look : Lookup) (a : Access) (v : ℕ) (bytes : List ℕ) where
+  pub made : against a (probe look a) ≡ Ok tt → store_at look a v bytes ≡ written look a v bytes
+  unfolding store_at
+  made = go (probe look a)
+    where
+      go : (r : Result (Unit {0}) Failure) → against a r ≡ Ok tt → stored_if r (written look a v bytes) bytes ≡ written look a v bytes
+      go (Ok x) e = refl
+      go (Err failure) e = search rules
+
+  pub not_made : (b : Blocked) → against a (probe look a) ≡ Err b → store_at look a v bytes ≡ bytes
+  unfolding store_at
+  not_made b = go (probe look a)
+    where
+      go : (r : Result (Unit {0}) Failure) → against a r ≡ Err b → stored_if r (written look a v bytes) bytes ≡ bytes
+      go (Ok x) e = search rules
+      go (Err failure) e = refl
 
 module _ (look : Lookup) (p : Prog State) (s : State) (bytes : List ℕ) where
   pub completes : (after : State) (left : List ℕ) → interp look p bytes ≡ ended after left → operate look p s bytes ≡ record { answer = Completed; state = after; bytes = left }
@@ -86,17 +113,22 @@ module _ (look : Lookup) (p : Prog State) (s : State) (bytes : List ℕ) where
   unfolding operate
   faults fault e = rw e
 
+-- a `?` on what an access or some stores gave hands back this fault
+pub blamed : {A : Type 0} (r : Result A Fault) (b : Blocked) → IsErrAnd r (λ fault. fault ≡ blame b.access b.failure) → r ≡ Err (blame b.access b.failure)
+blamed (Ok x) b h = absurd h
+blamed (Err fault) b h = ap Err h
+
 -- ---- one program after another
 
 module _ (look : Lookup) {A B : Type 0} (f : A → Prog B) where
-  after : Result A → Result B
+  after : Ending A → Ending B
   after (ended x left) = interp look (f x) left
   after (broken fault) = broken fault
 
-  on_after : (a : Access) (r : Reach) (go : Result A) → on_reach a r (after go) ≡ after (on_reach a r go)
+  on_after : (a : Access) (r : Result (Unit {0}) Failure) (go : Ending A) → on_reach a r (after go) ≡ after (on_reach a r go)
   unfolding after
-  on_after a Ready go = refl
-  on_after a (Blocked failure) go = refl
+  on_after a (Ok x) go = refl
+  on_after a (Err failure) go = refl
 
   bind : (p : Prog A) (bytes : List ℕ) → interp look (p >>= f) bytes ≡ after (interp look p bytes)
   unfolding ◌>>=◌ interp after
@@ -118,51 +150,27 @@ module _ (look : Lookup) {A B : Type 0} (f : A → Prog B) where
 -- ---- stores, given as a list
 
 -- the stores of a list, one after the other
-unfoldable pub put_all : List Slot → Prog (Unit {0})
+unfoldable pub put_all : List Store → Prog (Unit {0})
 put_all [] = done tt
-put_all (End ∷ rest) = done tt
-put_all (Store a v ∷ rest) = put a v (put_all rest)
-
--- how a program ends that begins with stores, by what trying them found
-on_stored : {A : Type 0} → Stored → Result A → Result A
-on_stored AllStored go = go
-on_stored (NoneStored a failure) go = broken (blame a failure)
+put_all (s ∷ rest) = put s.access s.value (put_all rest)
 
 module _ (look : Lookup) {A : Type 0} (p : Prog A) where
-  all_tried : (slots : List Slot) (bytes : List ℕ) → interp look (put_all slots >> p) bytes ≡ on_stored (try_all look slots) (interp look p (written_all look slots bytes))
-  unfolding ◌>>=◌ interp put_all on_stored try_all written_all
+  all_tried : (stores : List Store) (bytes : List ℕ) → interp look (put_all stores >> p) bytes ≡ go_on (try_all look stores) (λ x. interp look p (written_all look stores bytes))
+  unfolding ◌>>=◌ interp put_all go_on try_all written_all
   all_tried [] bytes = refl
-  all_tried (End ∷ rest) bytes = refl
-  all_tried (Store a v ∷ rest) bytes = go (probe look a) (try_all look rest) (interp look p (written_all look rest (written look a v bytes))) (all_tried rest (written look a v bytes))
+  all_tried (s ∷ rest) bytes = go (probe look s.access) (try_all look rest) (interp look p (written_all look rest (written look s.access s.value bytes))) (all_tried rest (written look s.access s.value bytes))
     where
-      go : (r : Reach) (later : Stored) {before : Result A} (after : Result A) → before ≡ on_stored later after → on_reach a r before ≡ on_stored (then_try a r later) after
-      go Ready later after e = e
-      go (Blocked failure) later after e = refl
+      go : (r : Result (Unit {0}) Failure) (later : Result (Unit {0}) Blocked) {before : Ending A} (after : Ending A) → before ≡ go_on later (λ x. after)
+          → on_reach s.access r before ≡ go_on (then_try (against s.access r) later) (λ x. after)
+      go (Ok x) later after e = e
+      go (Err failure) later after e = refl
 
   -- all can be made, and the rest goes on from the bytes that they leave
-  pub all_stored : (slots : List Slot) (bytes : List ℕ) → try_all look slots ≡ AllStored → interp look (put_all slots >> p) bytes ≡ interp look p (written_all look slots bytes)
-  unfolding on_stored
-  all_stored slots bytes e = all_tried slots bytes ∙ rw e
+  pub all_stored : (stores : List Store) (bytes : List ℕ) → try_all look stores ≡ Ok tt → interp look (put_all stores >> p) bytes ≡ interp look p (written_all look stores bytes)
+  unfolding go_on
+  all_stored stores bytes e = all_tried stores bytes ∙ rw e
 
   -- one cannot be made: the first of them gives the fault
-  pub none_stored : (slots : List Slot) (bytes : List ℕ) (a : Access) (failure : Failure) → try_all look slots ≡ NoneStored a failure → interp look (put_all slots >> p) bytes ≡ broken (blame a failure)
-  unfolding on_stored
-  none_stored slots bytes a failure e = all_tried slots bytes ∙ rw e
-
--- ---- small numbers
-
-pub some_bytes : (size : Size) → 0 < byte_count size
-some_bytes Four = omega arith
-some_bytes Eight = omega arith
-
-pub long_small : (s : State) → long_bit s ≤ 1
-long_small s = go (is_long s)
-  where
-    go : (t : Bool) → cond t 1 0 ≤ 1
-    go true = omega arith
-    go false = omega arith
-
--- up to 255 elements of a size fit a word
-pub product : (size : Size) (n : ℕ) → n < 256 → byte_count size * n < 2 ^ 64
-product Four n h = omega arith
-product Eight n h = omega arith
+  pub none_stored : (stores : List Store) (bytes : List ℕ) (b : Blocked) → try_all look stores ≡ Err b → interp look (put_all stores >> p) bytes ≡ broken (blame b.access b.failure)
+  unfolding go_on
+  none_stored stores bytes b e = all_tried stores bytes ∙ rw e

@@ -1,11 +1,10 @@
 -- The access language: an operation is a little program of loads and stores, and never looks at memory by itself. The interpreter
 -- says once, for all operations, that the first access that cannot be done decides and that then nothing is stored. Assumes nothing.
-use Rattle.std.specs.Prelude.{ℕ, Bool, cond, List}
+use Rattle.std.specs.Prelude.{ℕ, Bool, cond, List, Result, Ok, Err}
 use Rattle.accesses.specs.Access.{probe, value, written}
 use Rattle.pages.specs.Pages.{Lookup}
 use Rattle.accesses.specs.declared.access.Access.{Access}
-use Rattle.accesses.specs.declared.reach.Reach.{Reach}
-use Rattle.accesses.specs.declared.reach.Reach.TheVariants.{Ready, Blocked}
+use Rattle.accesses.specs.declared.reach.Failure.{Failure}
 use Rattle.answers.specs.Blame.{blame}
 use Rattle.answers.specs.declared.answer.Answer.{Answer}
 use Rattle.answers.specs.declared.answer.Answer.TheVariants.{Completed, Faulted}
@@ -52,16 +51,17 @@ only_if t p = cond t p (done tt)
 
 -- ---- the interpreter
 
-pub data Result (A : Type 0) : Type 0 where
-  ended : A → List ℕ → Result A
-  broken : Fault → Result A
+-- how a program ends: with what it hands back and the bytes that it leaves, or with a fault
+pub data Ending (A : Type 0) : Type 0 where
+  ended : A → List ℕ → Ending A
+  broken : Fault → Ending A
 
 -- by what trying an access finds
-abbrev pub on_reach : {A : Type 0} → Access → Reach → Result A → Result A
-on_reach a Ready go = go
-on_reach a (Blocked failure) go = broken (blame a failure)
+abbrev pub on_reach : {A : Type 0} → Access → Result (Unit {0}) Failure → Ending A → Ending A
+on_reach a (Ok x) go = go
+on_reach a (Err failure) go = broken (blame a failure)
 
-unfoldable pub interp : {A : Type 0} → Lookup → Prog A → List ℕ → Result A
+unfoldable pub interp : {A : Type 0} → Lookup → Prog A → List ℕ → Ending A
 interp look (done x) bytes = ended x bytes
 interp look (stop fault) bytes = broken fault
 interp look (fetch a k) bytes = on_reach a (probe look a) (interp look (k (value look bytes a)) bytes)
@@ -76,7 +76,7 @@ pub record Step : Type 0 where
   pub bytes : List ℕ
 
 -- a fault gives back the state and the bytes from before it
-abbrev pub settle : State → List ℕ → Result State → Step
+abbrev pub settle : State → List ℕ → Ending State → Step
 settle s bytes (ended after stored) = record { answer = Completed; state = after; bytes = stored }
 settle s bytes (broken fault) = record { answer = Faulted fault; state = s; bytes = bytes }
 

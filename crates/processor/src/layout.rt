@@ -7,14 +7,13 @@ use crate::state::State;
 // How many fields a state has.
 pub const FIELDS: usize = 10;
 
-impl State {
-    // The words of its fields.
-    pub fn words(self) -> [u64; FIELDS]
-        ensures { result ≡ words_of self }
-    {
+// The words of its fields.
+impl From<State> for [u64; FIELDS] {
+    ghost from_gives = { λ s w. w ≡ words_of s };
+
+    fn from(s: State) -> [u64; FIELDS] {
         [
-            self.mode, self.cpl, self.cet, self.ucet, self.scet, self.ip, self.sp, self.ssp,
-            self.flags, self.limit,
+            s.mode, s.cpl, s.cet, s.ucet, s.scet, s.ip, s.sp, s.ssp, s.flags, s.limit,
         ]
     }
 }

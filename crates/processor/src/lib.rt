@@ -3,11 +3,9 @@
 
 mod layout;
 mod outcome;
-mod popped;
 mod state;
 
-pub use answers::{Answer, Fault, Refusal, Report, Vector, blame, control_fault, fault};
+pub use answers::{Answer, Fault, Refusal, Report, Vector, control_fault, fault};
 pub use layout::FIELDS;
 pub use outcome::Outcome;
-pub use popped::Popped;
 pub use state::State;

@@ -26,6 +26,7 @@ pub struct State {
 }
 
 // Whether a CET register holds what it may: any number.
+#[tactic(auto, unfolding(crate::specs::State::cet_fits))]
 fn cet_fits(register: u64) -> bool
     ensures { result ≡ cet_fits register }
 {
@@ -57,6 +58,7 @@ impl State {
     }
 
     // a + b, as pointers of this mode.
+    #[tactic(auto, unfolding(crate::specs::State::plus))]
     pub fn plus(self, a: u64, b: u64) -> u64
         ensures { result ≡ plus_of self a b }
     {
@@ -64,6 +66,7 @@ impl State {
     }
 
     // a - b, as pointers of this mode.
+    #[tactic(auto, unfolding(crate::specs::State::minus))]
     pub fn minus(self, a: u64, b: u64) -> u64
         ensures { result ≡ minus_of self a b }
     {
@@ -84,28 +87,23 @@ impl State {
     }
 
     // Whether the shadow stack is enabled.
+    #[tactic(auto, unfolding(crate::specs::State::enabled))]
     pub fn enabled(self) -> bool
         ensures { result ≡ enabled_of self }
     {
-        if self.cet == 1 {
-            self.register() % 2 == 1
-        } else {
-            false
-        }
+        self.cet == 1 && self.register() % 2 == 1
     }
 
     // Whether the shadow stack operations are recognised: never in mode 0.
+    #[tactic(auto, unfolding(crate::specs::State::usable))]
     pub fn usable(self) -> bool
         ensures { result ≡ usable_of self }
     {
-        if self.mode == 0 {
-            false
-        } else {
-            self.enabled()
-        }
+        self.mode != 0 && self.enabled()
     }
 
     // Whether WRSS is permitted at this CPL.
+    #[tactic(auto, unfolding(crate::specs::State::permitted))]
     pub fn permitted(self) -> bool
         ensures { result ≡ permitted_of self }
     {
@@ -113,6 +111,7 @@ impl State {
     }
 
     // The address of the next instruction.
+    #[tactic(auto, unfolding(crate::specs::State::next))]
     pub fn next(self, span: u64) -> u64
         ensures { result ≡ next_of self span }
     {
@@ -123,17 +122,14 @@ impl State {
     fn access(self, kind: Kind, first: u64, size: Size, store: bool) -> Access
         ensures { result ≡ access_of self kind first size store }
     {
-        let user = self.is_user();
-        let width = self.width();
-        let canonical = self.is_long();
         Access {
             kind,
             store,
-            user,
+            user: self.is_user(),
             first,
             size,
-            width,
-            canonical,
+            width: self.width(),
+            canonical: self.is_long(),
         }
     }
 
@@ -141,11 +137,12 @@ impl State {
     pub fn shadow(self, first: u64, size: Size, store: bool) -> Access
         ensures { result ≡ shadow_of self first size store }
     {
-        if self.is_user() {
-            self.access(Kind::UserShadow, first, size, store)
+        let kind = if self.is_user() {
+            Kind::UserShadow
         } else {
-            self.access(Kind::SupervisorShadow, first, size, store)
-        }
+            Kind::SupervisorShadow
+        };
+        self.access(kind, first, size, store)
     }
 
     // An access to ordinary memory.
@@ -156,53 +153,28 @@ impl State {
     }
 
     // Whether mode, CPL, CR4.CET and the code limit are in their ranges.
+    #[tactic(auto, unfolding(crate::specs::State::fixed_fit))]
     fn fixed_fit(self) -> bool
         ensures { result ≡ fixed_fit self }
     {
-        if self.mode > 2 {
-            return false;
-        }
-        if self.cpl > 3 {
-            return false;
-        }
-        if self.cet > 1 {
-            return false;
-        }
-        self.limit < 0x1_0000_0000
+        self.mode <= 2 && self.cpl <= 3 && self.cet <= 1 && self.limit < 0x1_0000_0000
     }
 
     // Whether IP, SP and SSP are in their ranges.
+    #[tactic(auto, unfolding(crate::specs::State::pointers_fit))]
     fn pointers_fit(self) -> bool
         ensures { result ≡ pointers_fit self }
     {
-        if self.ssp % 4 != 0 {
-            return false;
-        }
-        if self.is_long() {
-            return true;
-        }
-        if self.ip >= 0x1_0000_0000 {
-            return false;
-        }
-        if self.sp >= 0x1_0000_0000 {
-            return false;
-        }
-        self.ssp < 0x1_0000_0000
+        self.ssp % 4 == 0
+            && (self.is_long()
+                || self.ip < 0x1_0000_0000 && self.sp < 0x1_0000_0000 && self.ssp < 0x1_0000_0000)
     }
 
     // Whether every field is in its range; if not, the state gets refusal 5.
+    #[tactic(auto, unfolding(crate::specs::State::in_range))]
     pub fn in_range(self) -> bool
         ensures { result ≡ in_range_of self }
     {
-        if !self.fixed_fit() {
-            return false;
-        }
-        if !cet_fits(self.ucet) {
-            return false;
-        }
-        if !cet_fits(self.scet) {
-            return false;
-        }
-        self.pointers_fit()
+        self.fixed_fit() && cet_fits(self.ucet) && cet_fits(self.scet) && self.pointers_fit()
     }
 }

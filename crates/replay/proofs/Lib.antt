@@ -1,3 +1,3 @@
--- Laws of one instruction and of a run.
+-- Laws of a run.
 
 mod RunLaws

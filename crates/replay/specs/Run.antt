@@ -1,21 +1,20 @@
 -- Whole runs: what is tested before any step, the steps, and where they end (docs/RULES.md, "Refusals and answers"). Assumes nothing.
-use Rattle.std.specs.Prelude.{ℕ, zero, suc, ◌/◌, ◌%◌, Bool, not, cond, ◌||◌, List, length, eqb, ltb}
+use Rattle.std.specs.Prelude.{ℕ, zero, suc, ◌/◌, ◌%◌, Bool, not, cond, ◌||◌, List, length, eqb, ltb, Result, Ok, Err}
 use Rattle.pages.specs.Pages.{Lookup, listing}
-use Rattle.pages.specs.declared.pages.Listing.{Listing}
-use Rattle.pages.specs.declared.pages.Listing.TheVariants.{Valid, BadLength, BadKind, BadAddress, Repeated}
+use Rattle.pages.specs.declared.pages.ListError.{ListError}
 use Rattle.accesses.specs.Access.{lookup_of}
 use Rattle.processor.specs.State.{in_range}
 use Rattle.processor.specs.Prog.{Step}
+use Rattle.answers.specs.Answer.{refusal_for}
 use Rattle.answers.specs.declared.answer.Answer.{Answer}
 use Rattle.answers.specs.declared.answer.Answer.TheVariants.{Completed, Refused, Faulted}
-use Rattle.answers.specs.declared.answer.Refusal.TheVariants.{Length, Kind, Address, Repeat, State as BadState, Words}
+use Rattle.answers.specs.declared.answer.Refusal.{Refusal}
+use Rattle.answers.specs.declared.answer.Refusal.TheVariants.{State as BadState, Words}
 use Rattle.processor.specs.declared.state.State.{State}
 use Rattle.instructions.specs.Instruction.{instruction_words, instruction_at}
 use Rattle.perform.specs.Codes.{codes}
 use Rattle.perform.specs.Exec.{InstructionSet, refused, perform}
 use Rattle.instructions.specs.declared.instruction.Instruction.{Instruction}
-use Rattle.replay.specs.declared.steps.Tested.{Tested}
-use Rattle.replay.specs.declared.steps.Tested.TheVariants.{Passed, Failed}
 use Rattle.replay.specs.declared.runs.Replay.{Replay}
 
 -- ---- what a run is given
@@ -63,26 +62,23 @@ unfoldable pub bad_words : ℕ → Bool
 bad_words words = not (eqb (words % instruction_words) 0) || ltb instruction_limit (words / instruction_words)
 
 -- refusals 1 to 4 of the page list, then what is tested after them
-abbrev pub after_pages : Listing → Tested → Tested
-after_pages Valid rest = rest
-after_pages BadLength rest = Failed Length
-after_pages BadKind rest = Failed Kind
-after_pages BadAddress rest = Failed Address
-after_pages Repeated rest = Failed Repeat
+abbrev pub after_pages : Result (Unit {0}) ListError → Result (Unit {0}) Refusal → Result (Unit {0}) Refusal
+after_pages (Ok x) rest = rest
+after_pages (Err error) rest = Err (refusal_for error)
 
 -- Refusals 1, 2, 3, 4, 5 and 7, in this order, each over the whole input: `good` is whether the state is in range, `lent` and `words`
 -- are how many bytes and words there are.
-unfoldable pub check_by : List ℕ → ℕ → Bool → ℕ → Tested
-check_by pages lent good words = after_pages (listing pages lent) (cond good (cond (bad_words words) (Failed Words) Passed) (Failed BadState))
+unfoldable pub check_by : List ℕ → ℕ → Bool → ℕ → Result (Unit {0}) Refusal
+check_by pages lent good words = after_pages (listing pages lent) (cond good (cond (bad_words words) (Err Words) (Ok tt)) (Err BadState))
 
-unfoldable pub check : Input → Tested
+unfoldable pub check : Input → Result (Unit {0}) Refusal
 check given = check_by given.pages (length given.bytes) (in_range given.state) (length given.words)
 
 -- ---- one step
 
-abbrev pub step_if : Tested → Step → State → List ℕ → Step
-step_if Passed go s bytes = go
-step_if (Failed refusal) go s bytes = refused refusal s bytes
+abbrev pub step_if : Result (Unit {0}) Refusal → Step → State → List ℕ → Step
+step_if (Ok x) go s bytes = go
+step_if (Err refusal) go s bytes = refused refusal s bytes
 
 -- the first instruction of the list by itself, with every refusal that it can have; asked of lists of one (`alone`)
 unfoldable pub step : InstructionSet → Input → Step
@@ -115,9 +111,9 @@ run_from set look listed k (suc left) s bytes =
     let now : Step = perform set look (listed k) s bytes in
     onward now.answer (run_from set look listed (suc k) left now.state now.bytes) (ends_at k now)
 
-abbrev pub run_if : Tested → Run → State → List ℕ → Run
-run_if Passed go s bytes = go
-run_if (Failed refusal) go s bytes = ends_at 0 (refused refusal s bytes)
+abbrev pub run_if : Result (Unit {0}) Refusal → Run → State → List ℕ → Run
+run_if (Ok x) go s bytes = go
+run_if (Err refusal) go s bytes = ends_at 0 (refused refusal s bytes)
 
 -- the whole run, from any input whatever
 unfoldable pub run : InstructionSet → Input → Run

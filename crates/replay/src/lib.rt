@@ -6,5 +6,5 @@ mod steps;
 
 pub use instructions::Instruction;
 pub use runs::{Replay, run};
-pub use state_words::{Formed, good_state, state_of};
-pub use steps::{INSTRUCTION_LIMIT, Tested, check, step};
+pub use state_words::{good_state, state_of};
+pub use steps::{INSTRUCTION_LIMIT, check, step};

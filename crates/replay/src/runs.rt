@@ -1,12 +1,12 @@
 // A list of instructions, up to the first that is refused or faults.
 ghost use Rattle.std.specs.Prelude.{◌≡◌, ◌+◌, ◌*◌, ◌/◌, ◌<◌, length};
 ghost use Rattle.accesses.specs.Access.{lookup_of};
-ghost use Rattle.instructions.specs.Instruction.{instruction_at};
+ghost use Rattle.instructions.specs.Instruction.{instruction_words, instruction_at};
 ghost use Rattle.perform.specs.Codes.{codes};
 ghost use Rattle.replay.specs.Run.{input_of, run_from, run_of, replayed};
 
-use crate::steps::{Tested, check};
-use instructions::Instruction;
+use crate::steps::check;
+use instructions::{INSTRUCTION_WORDS, Instruction};
 use perform::perform;
 use processor::{Answer, State};
 
@@ -19,11 +19,12 @@ pub struct Replay {
 }
 
 // The k-th instruction of a list.
+#[tactic(auto, unfolding(instructions::specs::Instruction::instruction_at))]
 fn nth(words: &[u64], k: usize) -> Instruction
-    requires { 4 * k + 3 < length words.now }
+    requires { instruction_words * k + 3 < length words.now }
     ensures { result ≡ instruction_at words.now k }
 {
-    let at = 4 * k;
+    let at = INSTRUCTION_WORDS * k;
     Instruction {
         code: words[at],
         length: words[at + 1],
@@ -33,49 +34,40 @@ fn nth(words: &[u64], k: usize) -> Instruction
 }
 
 // Every instruction of an input that passed its tests.
-fn walk(state: State, pages: &[u64], bytes: &mut [u8], words: &[u64]) -> Replay
-    ensures { run_of result bytes.new ≡ run_from codes (lookup_of pages.now bytes.old) (instruction_at words.now) 0 (length words.now / 4) state bytes.old }
+fn walk(mut state: State, pages: &[u64], bytes: &mut [u8], words: &[u64]) -> Replay
+    ensures { run_of result bytes.new ≡ run_from codes (lookup_of pages.now bytes.old) (instruction_at words.now) 0 (length words.now / instruction_words) state bytes.old }
 {
-    let listed = words.len() / 4;
-    let mut state = state;
-    let mut k = 0;
-    while k < listed {
+    let listed = words.len() / INSTRUCTION_WORDS;
+    for k in 0..listed {
         let outcome = perform(nth(words, k), state, pages, bytes);
         let answer = outcome.answer;
         state = outcome.state;
-        match answer {
-            Answer::Completed => {
-                k += 1;
-            }
-            Answer::Refused(refusal) => return Replay {
+        let Answer::Completed = answer else {
+            return Replay {
                 count: k,
                 answer,
                 state,
-            },
-            Answer::Faulted(fault) => return Replay {
-                count: k,
-                answer,
-                state,
-            },
-        }
+            };
+        };
     }
     Replay {
-        count: k,
+        count: listed,
         answer: Answer::Completed,
         state,
     }
 }
 
 // Runs a list from any state, page list, bytes and words whatever. A refusal given before any step leaves all as it was, with count 0.
+#[tactic(auto, unfolding(crate::specs::Run::run, crate::specs::Run::check))]
 pub fn run(state: State, pages: &[u64], bytes: &mut [u8], words: &[u64]) -> Replay
     ensures { run_of result bytes.new ≡ replayed (input_of state pages.now bytes.old words.now) }
 {
-    match check(pages, bytes.len(), state.in_range(), words.len()) {
-        Tested::Failed(refusal) => Replay {
+    if let Err(refusal) = check(pages, bytes.len(), state.in_range(), words.len()) {
+        return Replay {
             count: 0,
             answer: Answer::Refused(refusal),
             state,
-        },
-        Tested::Passed => walk(state, pages, bytes, words),
+        };
     }
+    walk(state, pages, bytes, words)
 }

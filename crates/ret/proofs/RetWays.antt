@@ -3,13 +3,14 @@ use Prim.Native.Nat.{ℕ}
 use mathlib.Core.Path.{◌≡◌, ◌∙◌}
 use mathlib.Core.Bool.{true, false, not}
 use mathlib.Core.List.{List}
+use Rattle.std.proofs.Common.{Result, Ok, Err}
 use lib.Dec.{eqb}
 use borrow.Author.Tests.{eq-eqb, ne_eqb}
 use Rattle.numbers.specs.Numbers.{byte_count}
 use Rattle.accesses.specs.Access.{load as load_at}
 use Rattle.pages.specs.Pages.{Lookup}
-use Rattle.accesses.specs.declared.reach.Failure.{Failure}
-use Rattle.accesses.specs.declared.load.Loaded.TheVariants.{Value, Blocked as Unloaded}
+use Rattle.memory.specs.Blocked.{against}
+use Rattle.memory.specs.declared.blocked.Blocked.{Blocked}
 use Rattle.answers.specs.Answer.{ss, gp, cp_near_ret}
 use Rattle.processor.specs.State.{enabled, plus}
 use Rattle.processor.specs.Layout.{with_ip, with_sp, with_ssp}
@@ -31,12 +32,12 @@ module _ (look : Lookup) (bytes : List ℕ) (s : State) (target : ℕ) where
   not_asked e = rw e
 
   module _ (on : enabled s ≡ true) where
-    pub frame_blocked : (failure : Failure) → load_at look bytes (shadow s s.ssp (pushed s) false) ≡ Unloaded failure
-        → interp look (new_ssp s target) bytes ≡ broken (blame (shadow s s.ssp (pushed s) false) failure)
+    pub frame_blocked : (b : Blocked) → against (shadow s s.ssp (pushed s) false) (load_at look bytes (shadow s s.ssp (pushed s) false)) ≡ Err b
+        → interp look (new_ssp s target) bytes ≡ broken (blame b.access b.failure)
     unfolding new_ssp pop_frame
-    frame_blocked failure e = rw on (not_loaded look bytes (shadow s s.ssp (pushed s) false) _ failure e)
+    frame_blocked b e = rw on (not_loaded look bytes (shadow s s.ssp (pushed s) false) _ b e)
 
-    module _ (frame : ℕ) (e : load_at look bytes (shadow s s.ssp (pushed s) false) ≡ Value frame) where
+    module _ (frame : ℕ) (e : against (shadow s s.ssp (pushed s) false) (load_at look bytes (shadow s s.ssp (pushed s) false)) ≡ Ok frame) where
       pub frame_differs : (frame ≡ target → ⊥) → interp look (new_ssp s target) bytes ≡ broken cp_near_ret
       unfolding new_ssp pop_frame
       frame_differs other = rw on (loaded look bytes (shadow s s.ssp (pushed s) false) _ frame e ∙ halted look bytes (eqb frame target) cp_near_ret _ (ne_eqb _ _ other))
@@ -57,13 +58,13 @@ module _ (look : Lookup) (bytes : List ℕ) (count : ℕ) (s : State) where
   stack_end e = faults look _ s bytes ss (halted look bytes (not (runs_past s s.sp)) ss _ (rw e))
 
   module _ (inside : runs_past s s.sp ≡ false) where
-    pub pop_blocked : (failure : Failure) → load_at look bytes (ordinary s s.sp (pushed s) false) ≡ Unloaded failure
-        → operate look (ret count s) s bytes ≡ step_of (faulted s (blame (ordinary s s.sp (pushed s) false) failure)) bytes
+    pub pop_blocked : (b : Blocked) → against (ordinary s s.sp (pushed s) false) (load_at look bytes (ordinary s s.sp (pushed s) false)) ≡ Err b
+        → operate look (ret count s) s bytes ≡ step_of (faulted s (blame b.access b.failure)) bytes
     unfolding ret
-    pop_blocked failure e =
-        faults look _ s bytes _ (passed look bytes (not (runs_past s s.sp)) ss _ (rw inside) ∙ not_loaded look bytes (ordinary s s.sp (pushed s) false) _ failure e)
+    pop_blocked b e =
+        faults look _ s bytes _ (passed look bytes (not (runs_past s s.sp)) ss _ (rw inside) ∙ not_loaded look bytes (ordinary s s.sp (pushed s) false) _ b e)
 
-    module _ (target : ℕ) (popped : load_at look bytes (ordinary s s.sp (pushed s) false) ≡ Value target) where
+    module _ (target : ℕ) (popped : against (ordinary s s.sp (pushed s) false) (load_at look bytes (ordinary s s.sp (pushed s) false)) ≡ Ok target) where
       -- past the ordinary pop
       past_pop : interp look (ret count s) bytes ≡ interp look (new_ssp s target >>= landing count s target) bytes
       unfolding ret

@@ -4,14 +4,15 @@
 ghost use Rattle.std.specs.Prelude.{◌≡◌};
 ghost use Rattle.accesses.specs.Access.{lookup_of};
 ghost use Rattle.processor.specs.Prog.{operate};
-ghost use Rattle.processor.specs.Outcomes.{step_of};
+ghost use Rattle.processor.specs.Outcomes.{ended_by, step_of};
 ghost use Rattle.processor.specs.Bits.{bit};
 ghost use Rattle.rstorssp.specs.Rstorssp.{home as home_of, good_token, restored_flags, rstorssp as rstorssp_of};
 
-use memory::{Loaded, Size, Width};
-use processor::{Outcome, State, Vector};
+use memory::{Size, Width};
+use processor::{Fault, State, Vector, control_fault, fault};
 
 // The address that a token must stand at.
+#[tactic(auto, unfolding(crate::specs::Rstorssp::home))]
 fn home(token: u64) -> u64
     ensures { result ≡ home_of token }
 {
@@ -21,22 +22,15 @@ fn home(token: u64) -> u64
 }
 
 // Whether the token at an address may be restored.
+#[tactic(auto, unfolding(crate::specs::Rstorssp::good_token))]
 fn good_token(state: State, a: u64, token: u64) -> bool
     ensures { result ≡ good_token state a token }
 {
-    if token % 4 != state.long_bit() {
-        return false;
-    }
-    if state.is_long() {
-        return home(token) == a;
-    }
-    if token >= 0x1_0000_0000 {
-        return false;
-    }
-    home(token) == a
+    token % 4 == state.long_bit() && (state.is_long() || token < 0x1_0000_0000) && home(token) == a
 }
 
 // CF becomes the token's bit 2; OF, SF, ZF, AF and PF are cleared.
+#[tactic(auto, unfolding(crate::specs::Rstorssp::restored_flags))]
 fn restored_flags(flags: u64, token: u64) -> u64
     ensures { result ≡ restored_flags flags (bit 2 token) }
 {
@@ -49,26 +43,32 @@ fn restored_flags(flags: u64, token: u64) -> u64
 }
 
 // `a` is the address of the token.
-pub fn execute(state: State, pages: &[u64], bytes: &mut [u8], a: u64, span: u64) -> Outcome
-    ensures { step_of result bytes.new ≡ operate (lookup_of pages.now bytes.old) (rstorssp_of a span state) state bytes.old }
+pub fn execute(
+    state: State,
+    pages: &[u64],
+    bytes: &mut [u8],
+    a: u64,
+    span: u64,
+) -> Result<State, Fault>
+    ensures { step_of (ended_by state result) bytes.new ≡ operate (lookup_of pages.now bytes.old) (rstorssp_of a span state) state bytes.old }
 {
     if !state.usable() {
-        return state.fail(processor::fault(Vector::InvalidOpcode));
+        return Err(fault(Vector::InvalidOpcode));
     }
     if a % 8 != 0 {
-        return state.fail(processor::fault(Vector::Protection));
+        return Err(fault(Vector::Protection));
     }
     let access = state.shadow(a, Size::Eight, true);
-    match memory::load(access, pages, bytes) {
-        Loaded::Blocked(failure) => state.fail(processor::blame(access, failure)),
-        Loaded::Value(token) => {
-            if !good_token(state, a, token) {
-                return state.fail(processor::control_fault(4));
-            }
-            let previous = state.plus(state.ssp, state.long_bit() + 2);
-            let reach = memory::store(access, pages, bytes, previous);
-            let flags = restored_flags(state.flags, token);
-            state.restore(a, flags, state.next(span))
-        }
+    let token = memory::load(access, pages, bytes)?;
+    if !good_token(state, a, token) {
+        return Err(control_fault(4));
     }
+    let previous = state.plus(state.ssp, state.long_bit() + 2);
+    memory::store(access, pages, bytes, previous)?;
+    Ok(State {
+        ssp: a,
+        flags: restored_flags(state.flags, token),
+        ip: state.next(span),
+        ..state
+    })
 }

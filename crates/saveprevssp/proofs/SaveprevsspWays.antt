@@ -3,18 +3,16 @@ use Prim.Native.Nat.{ℕ, ◌+◌, ◌%◌}
 use mathlib.Core.Path.{◌≡◌, ◌∙◌, ap}
 use mathlib.Core.Bool.{true, false, not, ◌&&◌}
 use mathlib.Core.List.{List, [], ◌∷◌}
+use Rattle.std.proofs.Common.{Ok, Err}
 use lib.Dec.{eqb}
 use borrow.Author.Tests.{eq-eqb, ne_eqb}
 use Rattle.accesses.specs.Access.{load as load_at}
 use Rattle.pages.specs.Pages.{Lookup}
-use Rattle.accesses.specs.declared.access.Access.{Access}
-use Rattle.accesses.specs.declared.reach.Failure.{Failure}
 use Rattle.numbers.specs.declared.size.Size.TheVariants.{Four, Eight}
-use Rattle.accesses.specs.declared.load.Loaded.TheVariants.{Value, Blocked as Unloaded}
+use Rattle.memory.specs.Blocked.{against}
+use Rattle.memory.specs.declared.blocked.Blocked.{Blocked}
 use Rattle.stores.specs.Stores.{try_all, written_all}
-use Rattle.stores.specs.declared.Slot.{Slot}
-use Rattle.stores.specs.declared.Slot.TheVariants.{End, Store}
-use Rattle.stores.specs.declared.Stored.TheVariants.{AllStored, NoneStored}
+use Rattle.stores.specs.declared.Store.{Store}
 use Rattle.answers.specs.Answer.{ud, gp}
 use Rattle.processor.specs.State.{is_long, long_bit, usable, plus, minus, next}
 use Rattle.processor.specs.Layout.{with_ip, with_ssp}
@@ -31,15 +29,15 @@ use Rattle.saveprevssp.specs.Saveprevssp.{carry, pop_hole, new_top, saved_token,
 -- ---- the hole
 
 module _ (look : Lookup) (bytes : List ℕ) (s : State) (top : ℕ) where
-  pub hole_blocked : (failure : Failure) → load_at look bytes (shadow s top Four false) ≡ Unloaded failure → interp look (pop_hole s top) bytes ≡ broken (blame (shadow s top Four false) failure)
+  pub hole_blocked : (b : Blocked) → against (shadow s top Four false) (load_at look bytes (shadow s top Four false)) ≡ Err b → interp look (pop_hole s top) bytes ≡ broken (blame b.access b.failure)
   unfolding pop_hole
-  hole_blocked failure e = not_loaded look bytes (shadow s top Four false) _ failure e
+  hole_blocked b e = not_loaded look bytes (shadow s top Four false) _ b e
 
-  pub hole_filled : (hole : ℕ) → load_at look bytes (shadow s top Four false) ≡ Value hole → (hole ≡ 0 → ⊥) → interp look (pop_hole s top) bytes ≡ broken gp
+  pub hole_filled : (hole : ℕ) → against (shadow s top Four false) (load_at look bytes (shadow s top Four false)) ≡ Ok hole → (hole ≡ 0 → ⊥) → interp look (pop_hole s top) bytes ≡ broken gp
   unfolding pop_hole
   hole_filled hole e full = loaded look bytes (shadow s top Four false) _ hole e ∙ halted look bytes (eqb hole 0) gp _ (ne_eqb _ _ full)
 
-  pub hole_popped : (hole : ℕ) → load_at look bytes (shadow s top Four false) ≡ Value hole → hole ≡ 0 → interp look (pop_hole s top) bytes ≡ ended (plus s top 4) bytes
+  pub hole_popped : (hole : ℕ) → against (shadow s top Four false) (load_at look bytes (shadow s top Four false)) ≡ Ok hole → hole ≡ 0 → interp look (pop_hole s top) bytes ≡ ended (plus s top 4) bytes
   unfolding pop_hole interp
   hole_popped hole e empty = loaded look bytes (shadow s top Four false) _ hole e ∙ passed look bytes (eqb hole 0) gp _ (eq-eqb _ _ empty)
 
@@ -58,11 +56,11 @@ module _ (look : Lookup) (bytes : List ℕ) (s : State) (top : ℕ) where
 -- ---- with the token popped
 
 -- what is left behind, as the code has it: the zero bytes and the restore token
-abbrev pub left_stores : ℕ → State → List Slot
+abbrev pub left_stores : ℕ → State → List Store
 left_stores token s =
-    Store (shadow s (minus s (multiple 4 token) 4) Four true) 0
-    ∷ Store (shadow s (minus s (multiple 8 (multiple 4 token)) 8) Eight true) (multiple 4 token + long_bit s)
-    ∷ End ∷ End ∷ End ∷ End ∷ End ∷ End ∷ []
+    record { access = shadow s (minus s (multiple 4 token) 4) Four true; value = 0 }
+    ∷ record { access = shadow s (minus s (multiple 8 (multiple 4 token)) 8) Eight true; value = multiple 4 token + long_bit s }
+    ∷ []
 
 module _ (look : Lookup) (bytes : List ℕ) (token span : ℕ) (s : State) where
   pub top_failed : (fault : Fault) → interp look (new_top s (plus s s.ssp 8)) bytes ≡ broken fault → operate look (leave_token token span s) s bytes ≡ step_of (faulted s fault) bytes
@@ -80,11 +78,11 @@ module _ (look : Lookup) (bytes : List ℕ) (token span : ℕ) (s : State) where
       unfolding leave_token ◌>>=◌ put_all
       past_checks = continues look _ (new_top s (plus s s.ssp 8)) bytes top bytes t ∙ passed look bytes (saved_token s token) gp _ saved
 
-      pub not_left : (a : Access) (failure : Failure) → try_all look (left_stores token s) ≡ NoneStored a failure
-          → operate look (leave_token token span s) s bytes ≡ step_of (faulted s (blame a failure)) bytes
-      not_left a failure e = faults look _ s bytes _ (past_checks ∙ none_stored look _ (left_stores token s) bytes a failure e)
+      pub not_left : (b : Blocked) → try_all look (left_stores token s) ≡ Err b
+          → operate look (leave_token token span s) s bytes ≡ step_of (faulted s (blame b.access b.failure)) bytes
+      not_left b e = faults look _ s bytes _ (past_checks ∙ none_stored look _ (left_stores token s) bytes b e)
 
-      pub left_behind : try_all look (left_stores token s) ≡ AllStored
+      pub left_behind : try_all look (left_stores token s) ≡ Ok tt
           → operate look (leave_token token span s) s bytes ≡ step_of (completed (with_ssp s top) (next s span)) (written_all look (left_stores token s) bytes)
       unfolding interp
       left_behind e = completes look _ s bytes _ _ (past_checks ∙ all_stored look _ (left_stores token s) bytes e)
@@ -102,16 +100,16 @@ module _ (look : Lookup) (bytes : List ℕ) (span : ℕ) (s : State) where
     not_aligned e = faults look _ s bytes gp (passed look bytes (usable s) ud _ u ∙ halted look bytes (eqb (s.ssp % 8) 0) gp _ (ne_eqb _ _ e))
 
     module _ (aligned : s.ssp % 8 ≡ 0) where
-      pub blocked : (failure : Failure) → load_at look bytes (shadow s s.ssp Eight false) ≡ Unloaded failure
-          → operate look (saveprevssp span s) s bytes ≡ step_of (faulted s (blame (shadow s s.ssp Eight false) failure)) bytes
+      pub blocked : (b : Blocked) → against (shadow s s.ssp Eight false) (load_at look bytes (shadow s s.ssp Eight false)) ≡ Err b
+          → operate look (saveprevssp span s) s bytes ≡ step_of (faulted s (blame b.access b.failure)) bytes
       unfolding saveprevssp
-      blocked failure e =
+      blocked b e =
           faults look _ s bytes _
           (passed look bytes (usable s) ud _ u
           ∙ passed look bytes (eqb (s.ssp % 8) 0) gp _ (eq-eqb _ _ aligned)
-          ∙ not_loaded look bytes (shadow s s.ssp Eight false) _ failure e)
+          ∙ not_loaded look bytes (shadow s s.ssp Eight false) _ b e)
 
-      pub popped : (token : ℕ) → load_at look bytes (shadow s s.ssp Eight false) ≡ Value token → operate look (saveprevssp span s) s bytes ≡ operate look (leave_token token span s) s bytes
+      pub popped : (token : ℕ) → against (shadow s s.ssp Eight false) (load_at look bytes (shadow s s.ssp Eight false)) ≡ Ok token → operate look (saveprevssp span s) s bytes ≡ operate look (leave_token token span s) s bytes
       unfolding saveprevssp operate
       popped token e =
           ap (settle s bytes)

@@ -30,7 +30,7 @@ use Rattle.numbers.proofs.Laws.{lies_inside}
 use Rattle.texts.specs.Digits.{tab, line_feed, digits, number, value_of, Below}
 use Rattle.texts.specs.Fields.{fields, joined, lines, any_digit, number_form, field_forms, begins, numeral, values_in}
 use Rattle.sheet.specs.Lines.{name, field_count, line, form, first, width, is_line, values, fits_line, put_line}
-use Rattle.texts.specs.declared.digits.Numeral.TheVariants.{Number}
+use Rattle.std.proofs.Common.{Some}
 use Rattle.sheet.specs.Reading.{next}
 use Rattle.sheet.specs.declared.line.Line.{Line}
 use Rattle.sheet.specs.declared.line.Line.TheVariants.{Sheet, State, Page, Word, Do}
@@ -201,7 +201,7 @@ line_value kind u i less =
 
 -- where the i-th number of a line stands, it is read
 pub line_numeral : (kind : Line) (u : List ℕ) (i : ℕ) → begins (form kind) u ≡ true → i < field_count kind
-    → numeral (drop (first kind + 18 * i) u) ≡ Number (get_or (values kind (take (width kind) u)) i 0)
+    → numeral (drop (first kind + 18 * i) u) ≡ Some (get_or (values kind (take (width kind) u)) i 0)
 unfolding numeral form
 line_numeral kind u i h less =
     let n = field_count kind in

@@ -6,16 +6,14 @@ use native.Mathlib.Omega.{arith}
 use lib.ListN.{length}
 use lib.Dec.{eqb, ltb}
 use borrow.Author.Tests.{le-ltb, eq-eqb, eqb-true, ltb-false, not-false}
+use Rattle.std.proofs.Common.{Result, Ok, Err}
 use Rattle.pages.specs.Pages.{page_limit, listing}
-use Rattle.pages.specs.declared.pages.Listing.{Listing}
-use Rattle.pages.specs.declared.pages.Listing.TheVariants.{Valid, BadLength, BadKind, BadAddress, Repeated}
+use Rattle.pages.specs.declared.pages.ListError.{ListError}
 use Rattle.pages.proofs.Laws.{ValidList, valid_list, list_valid, too_many_entries}
 use Rattle.answers.specs.declared.answer.Refusal.{Refusal}
 use Rattle.answers.specs.declared.answer.Refusal.TheVariants.{Length}
 use Rattle.state_words.specs.Formed.{good_state}
 use Rattle.replay.specs.Run.{instruction_limit, bad_words, after_pages, check_by}
-use Rattle.replay.specs.declared.steps.Tested.{Tested}
-use Rattle.replay.specs.declared.steps.Tested.TheVariants.{Passed, Failed}
 use Rattle.sheet.specs.Lent.{Buffers, tested}
 
 -- a run in lent buffers that is not refused
@@ -25,21 +23,23 @@ pub record Passes (run : Buffers) : Type 0 where
   pub whole : length run.words % 4 ≡ 0
   pub few : length run.words / 4 ≤ instruction_limit
 
-after_pages_lem : (l : Listing) (rest : Tested) → after_pages l rest ≡ Passed → (l ≡ Valid) × (rest ≡ Passed)
-after_pages_lem Valid rest e = (refl, e)
-after_pages_lem BadLength rest e = let z : ◌≡◌ {A = ℕ} 0 1 = cc in absurd (omega arith)
-after_pages_lem BadKind rest e = let z : ◌≡◌ {A = ℕ} 0 1 = cc in absurd (omega arith)
-after_pages_lem BadAddress rest e = let z : ◌≡◌ {A = ℕ} 0 1 = cc in absurd (omega arith)
-after_pages_lem Repeated rest e = let z : ◌≡◌ {A = ℕ} 0 1 = cc in absurd (omega arith)
+-- a refusal is no pass
+refusal_passes : (refusal : Refusal) → ◌≡◌ {A = Result (Unit {0}) Refusal} (Err refusal) (Ok tt) → ⊥
+refusal_passes refusal e = let z : ◌≡◌ {A = ℕ} 0 1 = cc in omega arith
 
-after_state : (good uneven many : Bool) (first second : Refusal) → cond good (cond (uneven || many) (Failed second) Passed) (Failed first) ≡ Passed
+after_pages_lem : (listed : Result (Unit {0}) ListError) (rest : Result (Unit {0}) Refusal) → after_pages listed rest ≡ Ok tt → (listed ≡ Ok tt) × (rest ≡ Ok tt)
+after_pages_lem (Ok x) rest e = (refl, e)
+after_pages_lem (Err error) rest e = absurd (refusal_passes _ e)
+
+after_state : (good uneven many : Bool) (first second : Refusal)
+    → ◌≡◌ {A = Result (Unit {0}) Refusal} (cond good (cond (uneven || many) (Err second) (Ok tt)) (Err first)) (Ok tt)
     → (good ≡ true) × (uneven ≡ false) × (many ≡ false)
-after_state true true many first second e = let z : ◌≡◌ {A = ℕ} 0 1 = cc in absurd (omega arith)
-after_state true false true first second e = let z : ◌≡◌ {A = ℕ} 0 1 = cc in absurd (omega arith)
+after_state true true many first second e = absurd (refusal_passes _ e)
+after_state true false true first second e = absurd (refusal_passes _ e)
 after_state true false false first second e = (refl, refl, refl)
-after_state false uneven many first second e = let z : ◌≡◌ {A = ℕ} 0 1 = cc in absurd (omega arith)
+after_state false uneven many first second e = absurd (refusal_passes _ e)
 
-pub passes : (run : Buffers) → tested run ≡ Passed → Passes run
+pub passes : (run : Buffers) → tested run ≡ Ok tt → Passes run
 unfolding check_by bad_words
 passes run e =
     let words : ℕ = length run.words in
@@ -52,13 +52,13 @@ passes run e =
       few = ltb-false instruction_limit (words / 4) rest.2;
     }
 
-pub passed : (run : Buffers) → Passes run → tested run ≡ Passed
+pub passed : (run : Buffers) → Passes run → tested run ≡ Ok tt
 unfolding check_by bad_words
 passed run h =
     let words : ℕ = length run.words in
     rw (list_valid run.pages (length run.bytes) h.list, h.state, eq-eqb (words % 4) 0 h.whole, le-ltb instruction_limit (words / 4) h.few)
 
 -- refusal 1 comes before all else
-pub too_many : (run : Buffers) → page_limit < length run.pages → tested run ≡ Failed Length
+pub too_many : (run : Buffers) → page_limit < length run.pages → tested run ≡ Err Length
 unfolding check_by
 too_many run more = rw (too_many_entries run.pages (length run.bytes) more)

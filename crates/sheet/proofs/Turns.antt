@@ -1,11 +1,12 @@
 -- The turns of the loops: what each definition gives from a place on, in the terms of the code. Assumes nothing.
-use Prim.Native.Nat.{ℕ, suc, ◌+◌, ◌-◌, ◌*◌, ◌<◌, ◌≤◌}
-use mathlib.Core.Path.{◌≡◌, sym, ap, ◌∙◌}
+use Prim.Native.Nat.{ℕ, zero, suc, ◌+◌, ◌-◌, ◌*◌, ◌<◌, ◌≤◌}
+use mathlib.Core.Path.{◌≡◌, refl, sym, ap, ◌∙◌}
 use mathlib.Core.Bool.{Bool, false, true, and-true, and_assoc, ◌&&◌}
 use mathlib.Core.List.{List, [], ◌∷◌, ◌++◌}
 use native.Mathlib.Numerals.{add-one}
 use native.Mathlib.Omega.{arith}
 use lib.Dec.{eqb}
+use Rattle.std.specs.List.{list_all, range_with_len}
 use lib.ListN.{length, get_or, take, drop, length-drop, drop_of_length-le}
 use lib.Seq.{take_all, drop-cons, drop-drop}
 use Rattle.texts.specs.Digits.{tab, line_feed}
@@ -13,9 +14,7 @@ use Rattle.numbers.specs.Numbers.{inside}
 use Rattle.numbers.specs.Buffers.{laid_if}
 use Rattle.texts.specs.Fields.{number_form, field_forms, begins, fits_mark, line_of}
 use Rattle.sheet.specs.Lines.{name, field_count, form, first, width, line, fits_line, put_line}
-use Rattle.sheet.specs.Names.{Spells}
 use Rattle.sheet.specs.declared.line.Line.{Line}
-use Rattle.sheet.specs.declared.line.Name.{Name}
 use Rattle.texts.proofs.Fields.{forms_length, line_long}
 use Rattle.texts.proofs.FormLaws.{begins_append, begins_take}
 use borrow.Author.Tests.{eq-eqb, ne_eqb}
@@ -26,29 +25,34 @@ feed_test : (u : List ℕ) (i : ℕ) → i < length u → begins (line_feed ∷ 
 unfolding begins
 feed_test u i more = rw (drop-cons u i 0 more, and-true)
 
-module _ (marks text : List ℕ) (i : ℕ) where
-  pub begins_turn : length marks ≤ length text → i < length marks → (good : Bool)
-      → (good && begins (drop i marks) (drop i text)) ≡ ((good && fits_mark (get_or marks i 0) (get_or text i 0)) && begins (drop (i + 1) marks) (drop (i + 1) text))
-  unfolding begins
-  begins_turn room more good = rw (add-one i, drop-cons marks i 0 more, drop-cons text i 0 (omega arith), and_assoc)
+-- What was told so far of a form, and what its marks `ms` are to tell of `cs`, is the whole; the text has room for the form.
+pub record Telling (whole good : Bool) (ms cs : List ℕ) : Type 0 where
+  pub told : whole ≡ (good && begins ms cs)
+  pub room : length ms ≤ length cs
 
-  pub begins_end : length marks ≤ i → (good : Bool) → (good && begins (drop i marks) (drop i text)) ≡ good
-  unfolding begins
-  begins_end end good = rw (drop_of_length-le marks end, and-true)
+pub tell_mark : (whole good : Bool) (mark c : ℕ) (ms cs : List ℕ) → Telling whole good (mark ∷ ms) (c ∷ cs) → Telling whole (good && fits_mark mark c) ms cs
+unfolding begins
+tell_mark whole good mark c ms cs t =
+    let room = t.room in
+    record { told = t.told ∙ sym (and_assoc good (fits_mark mark c) (begins ms cs)); room = omega arith }
 
--- fields of which the first is tested by itself
-pub fields_stand_turn : (left here : ℕ) (text : List ℕ) → 0 < left
-    → begins (field_forms left) (drop here text) ≡ (begins (tab ∷ number_form) (take 18 (drop here text)) && begins (field_forms (left - 1)) (drop (here + 18) text))
-unfolding field_forms
-fields_stand_turn left here text more =
-    let one : left ≡ suc (left - 1) = omega arith in
-    ap (λ (n : ℕ). begins (field_forms n) (drop here text)) one
-    ∙ begins_append (tab ∷ number_form) (field_forms (left - 1)) (drop here text)
-    ∙ rw (begins_take (tab ∷ number_form) (drop here text) 18 (omega arith), drop-drop 18 here text)
+pub tell_all : (whole good : Bool) (ms cs : List ℕ) → Telling whole good ms cs → length ms ≡ 0 → whole ≡ good
+unfolding begins
+tell_all whole good [] cs t none = t.told ∙ and-true good
+tell_all whole good (m ∷ ms) cs t none = absurd (omega arith)
 
-pub fields_stand_end : (left : ℕ) (u : List ℕ) → left ≤ 0 → begins (field_forms left) u ≡ true
+-- the fields of a text, tested one by one
+pub fields_one_by_one : (n i : ℕ) (text : List ℕ)
+    → list_all (λ i. begins (tab ∷ number_form) (drop (18 * i) text)) (range_with_len i n) ≡ begins (field_forms n) (drop (18 * i) text)
 unfolding field_forms begins
-fields_stand_end left u none = let zero_is : left ≡ 0 = omega arith in rw zero_is
+fields_one_by_one zero i text = refl
+fields_one_by_one (suc n) i text =
+    let next : 18 * i + 18 ≡ 18 * (i + 1) = omega arith in
+    rw (fields_one_by_one n (i + 1) text, begins_append (tab ∷ number_form) (field_forms n) (drop (18 * i) text), drop-drop 18 (18 * i) text, next)
+
+-- the part of a text from a place on, as the code lends it
+pub rest_whole : (text : List ℕ) (at : ℕ) → take (length text - at) (drop at text) ≡ drop at text
+rest_whole text at = take_all (length text - at) (drop at text) (simp length-drop (omega arith))
 
 -- a line, as it is tested: its name, its fields, its line feed
 module _ (kind : Line) (u : List ℕ) where
@@ -69,9 +73,10 @@ module _ (kind : Line) (u : List ℕ) where
         feed_test u (width kind - 1) (omega arith),
       )
 
--- the part of a text from a place on, as the code lends it
-pub rest_whole : (text : List ℕ) (at : ℕ) → take (length text - at) (drop at text) ≡ drop at text
-rest_whole text at = take_all (length text - at) (drop at text) (simp length-drop (omega arith))
+  -- the fields, as the code lends them
+  pub fields_tested : (count at : ℕ) → count ≡ field_count kind → at ≡ first kind → (told : Bool)
+      → told ≡ begins (field_forms count) (take (length u - (at - 1)) (drop (at - 1) u)) → begins (field_forms (field_count kind)) (drop (first kind - 1) u) ≡ told
+  fields_tested count at count-is at-is told e = rw (← count-is, ← at-is) (sym (e ∙ ap (begins (field_forms count)) (rest_whole u (at - 1))))
 
 -- a line of a kind that has its count of numbers, and one that has not
 module _ (kind : Line) (vs out : List ℕ) (at : ℕ) where
@@ -99,7 +104,3 @@ pub line_by_name : (kind : Line) (named : List ℕ) → named ≡ name kind → 
     → (wrote ≡ fits_line kind (length vs) (length out) at) × (after ≡ put_line kind vs out at)
 line_by_name kind named same vs out at count wrote after wrote-is after_is =
     (wrote-is ∙ rw same (own_count kind vs out at count), after_is ∙ rw same (own_line kind vs out at count))
-
--- the letters of a name, as the code lends them
-pub spelled_long : (held : Name) (named : List ℕ) → Spells held named → held.length ≡ length (take held.length held.letters)
-spelled_long held named spells = spells.long ∙ ap length (sym spells.front)

@@ -5,5 +5,3 @@ pub mod Lines
 pub mod Lent
 pub mod Sheets
 pub mod Reading
--- serves private functions
-pub mod Names

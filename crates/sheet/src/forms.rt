@@ -1,5 +1,5 @@
 // What a text begins with: a form, in which one mark stands for any digit and every other for itself.
-ghost use Rattle.std.specs.Prelude.{◌≡◌, ◌+◌, ◌*◌, ◌≤◌, length, drop};
+ghost use Rattle.std.specs.Prelude.{◌≡◌, ◌*◌, ◌≤◌, length};
 ghost use Rattle.texts.specs.Fields.{field_bytes, field_forms, begins as begins_with, fits_mark};
 
 use texts::{FIELD, is_digit};
@@ -25,28 +25,16 @@ pub(crate) fn begins(form: &[u8], text: &[u8]) -> bool
         return false;
     }
     let mut good = true;
-    let mut i = 0;
-    while i < form.len() {
-        good = good & fits_mark(form[i], text[i]);
-        i += 1;
+    for (mark, c) in form.iter().zip(text) {
+        good &= fits_mark(*mark, *c);
     }
     good
 }
 
-// Whether so many numbers, each behind a tab, stand at a place.
-pub(crate) fn fields_stand(n: usize, text: &[u8], at: usize) -> bool
-    requires { at + field_bytes * n ≤ length text.now }
-    ensures { result ≡ begins_with (field_forms n) (drop at text.now) }
+// Whether a text begins with so many numbers, each behind a tab.
+pub(crate) fn fields_stand(n: usize, text: &[u8]) -> bool
+    requires { field_bytes * n ≤ length text.now }
+    ensures { result ≡ begins_with (field_forms n) text.now }
 {
-    let mut here = at;
-    let mut left = n;
-    while 0 < left {
-        let end = here + FIELD;
-        if !begins(b"\tx################", &text[here..end]) {
-            return false;
-        }
-        here = end;
-        left -= 1;
-    }
-    true
+    (0..n).all(|i| begins(b"\tx################", &text[FIELD * i..]))
 }

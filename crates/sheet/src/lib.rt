@@ -2,8 +2,10 @@
 #![tactic(auto)]
 
 mod forms;
+mod lent;
 mod line;
 
+pub use lent::Parts;
 pub use line::Line;
 
 // The newest version of a sheet.

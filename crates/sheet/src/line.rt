@@ -3,7 +3,6 @@
 ghost use Rattle.std.specs.Prelude.{◌≡◌, length, drop};
 ghost use Rattle.texts.specs.Fields.{begins as begins_with};
 ghost use Rattle.sheet.specs.Lines.{name as name_of, field_count, first as first_of, width as width_of, form, fits_line, put_line};
-ghost use Rattle.sheet.specs.Names.{Spells};
 
 use crate::forms::{begins, fields_stand};
 use instructions::INSTRUCTION_WORDS;
@@ -24,13 +23,6 @@ pub enum Line {
     Do,
 }
 
-// A kind's name, at the front of its letters.
-#[derive(Clone, Copy)]
-struct Name {
-    letters: [u8; 5],
-    length: usize,
-}
-
 impl Line {
     // How many numbers a line has.
     pub fn count(self) -> usize
@@ -45,31 +37,16 @@ impl Line {
         }
     }
 
-    // What it is called. Behind the name its letters are spaces, which nothing reads.
-    fn name(self) -> Name
-        ensures { Spells result (name_of self) }
+    // What it is called.
+    pub fn name(self) -> &'static [u8]
+        ensures { result.now ≡ name_of self }
     {
         match self {
-            Line::Sheet => Name {
-                letters: *b"sheet",
-                length: 5,
-            },
-            Line::State => Name {
-                letters: *b"state",
-                length: 5,
-            },
-            Line::Page => Name {
-                letters: *b"page ",
-                length: 4,
-            },
-            Line::Word => Name {
-                letters: *b"word ",
-                length: 4,
-            },
-            Line::Do => Name {
-                letters: *b"do   ",
-                length: 2,
-            },
+            Line::Sheet => b"sheet",
+            Line::State => b"state",
+            Line::Page => b"page",
+            Line::Word => b"word",
+            Line::Do => b"do",
         }
     }
 
@@ -77,7 +54,7 @@ impl Line {
     pub fn first(self) -> usize
         ensures { result ≡ first_of self }
     {
-        self.name().length + 1
+        self.name().len() + 1
     }
 
     // How many bytes a line has.
@@ -87,40 +64,23 @@ impl Line {
         self.first() + FIELD * self.count()
     }
 
-    // Whether a text begins with its name.
-    fn is_named(self, text: &[u8]) -> bool
-        ensures { result ≡ begins_with (name_of self) text.now }
-    {
-        let name = self.name();
-        let letters = name.letters;
-        let length = name.length;
-        begins(&letters[..length], text)
-    }
-
     // Whether a text begins with a line of this kind: its name, its numbers, a line feed.
-    fn leads(self, text: &[u8]) -> bool
+    pub fn leads(self, text: &[u8]) -> bool
         ensures { result ≡ begins_with (form self) text.now }
     {
         if text.len() < self.width() {
             return false;
         }
-        if !self.is_named(text) {
-            return false;
-        }
-        if !fields_stand(self.count(), text, self.first() - 1) {
-            return false;
-        }
-        text[self.width() - 1] == b'\n'
+        begins(self.name(), text)
+            && fields_stand(self.count(), &text[self.first() - 1..])
+            && text[self.width() - 1] == b'\n'
     }
 
     // Whether a line of this kind stands at a place of a text.
     pub fn stands(self, text: &[u8], at: usize) -> bool
         ensures { result ≡ begins_with (form self) (drop at text.now) }
     {
-        if text.len() <= at {
-            return false;
-        }
-        self.leads(&text[at..])
+        at < text.len() && self.leads(&text[at..])
     }
 
     // Writes a line with these numbers from a place on, or nothing where they are not as many as such a line has, or it does not fit; and
@@ -129,12 +89,6 @@ impl Line {
         ensures told { result ≡ fits_line self (length values.now) (length text.old) at }
         ensures put { text.new ≡ put_line self values.now text.old at }
     {
-        if values.len() != self.count() {
-            return false;
-        }
-        let name = self.name();
-        let letters = name.letters;
-        let length = name.length;
-        put_line(&letters[..length], values, text, at)
+        values.len() == self.count() && put_line(self.name(), values, text, at)
     }
 }

@@ -1,12 +1,6 @@
 -- The refused line is the first that no sheet has. Assumes nothing.
-use Prim.Native.Nat.{ℕ, zero, suc, ◌-◌, ◌^◌, ◌<◌, ◌≤◌}
-use mathlib.Core.Bool.{true≢false}
-use mathlib.Core.List.{List, [], ◌∷◌, ◌++◌}
-use mathlib.Core.Path.{◌≡◌, refl, sym, ap, ◌∙◌}
-use native.Mathlib.Numerals.{add-one}
-use native.Mathlib.Omega.{arith}
-use lib.ListN.{length, get_or, take, drop, replicate, take-append-drop}
-use lib.Seq.{append_snoc, get_or-take, get_or-drop, take-append-add, take-append_seam, take-length}
+use Rattle.std.proofs.Common.{◌≡◌, ℕ, zero, suc, ◌-◌, ◌^◌, ◌<◌, ◌≤◌, List, [], ◌∷◌, ◌++◌, length, get_or, take, drop, replicate, sym, refl, ap, ◌∙◌, true≢false, add-one, arith, take-append-drop, get_or-drop, get_or-take}
+use lib.Seq.{append_snoc, take-append-add, take-append_seam, take-length}
 use Rattle.texts.specs.Digits.{Below}
 use Rattle.texts.specs.Fields.{lines}
 use Rattle.sheet.specs.Lines.{field_count, line, is_line}
@@ -29,7 +23,7 @@ from_one t n e = by (outcome (lines t))
     by : Outcome (lines t) → 1 ≤ n
     by (no_head h at) = let n_is : n ≡ 1 = cc in omega arith
     by (no_state first h at) = let n_is : n ≡ 2 = cc in omega arith
-    by (whole s h lines_are read) = let z : ◌≡◌ {A = ℕ} 0 1 = cc in absurd (omega arith)
+    by (whole s h lines_are read) = absurd cc
     by (stopped s l rest h lines_are left at) = let n_is : n ≡ suc (length (sheet_lines s)) = cc in omega arith
 
 -- ---- the lines before it
@@ -53,7 +47,7 @@ before t n e = by (outcome (lines t))
     by : Outcome (lines t) → (s : Saved) × Sheeted s × (take (n - 1) (lines (text s)) ≡ take (n - 1) (lines t))
     by (no_head h at) = let n_is : n ≡ 1 = cc in (blank, blank_sheeted, rw n_is)
     by (no_state first h at) = let n_is : n ≡ 2 = cc in (blank, blank_sheeted, rw (n_is, lines_of_text blank blank_sheeted, first))
-    by (whole s h lines_are read) = let z : ◌≡◌ {A = ℕ} 0 1 = cc in absurd (omega arith)
+    by (whole s h lines_are read) = absurd cc
     by (stopped s l rest h lines_are left at) =
         let n_is : n - 1 ≡ length (sheet_lines s) = let n_is : n ≡ suc (length (sheet_lines s)) = cc in omega arith in
         (s, h, rw (n_is, lines_of_text s h, ← lines_are, take-append_seam (sheet_lines s) (l ∷ rest), take-length (sheet_lines s)))
@@ -96,7 +90,7 @@ not_here t n e s h alike = by (outcome (lines t))
         let n_is : n ≡ 2 = cc in
         let second : line State s.state ≡ next (drop 1 (lines t)) = same_line 1 n (sheet_lines s) (lines t) (omega arith) same ∙ sym (get_or-drop 1 (lines t) 0 []) in
         true≢false (sym (is_line_line State s.state h.fields h.state) ∙ ap (is_line State) second ∙ none)
-    by (whole r k lines_are read) = let z : ◌≡◌ {A = ℕ} 0 1 = cc in omega arith
+    by (whole r k lines_are read) = cc
     by (stopped r l rest k lines_are left at) =
         let n_is : n ≡ suc (length (sheet_lines r)) = cc in
         left_nowhere r s l rest (drop (suc (length (sheet_lines r))) (sheet_lines s)) h (rw (← lines_are) at left)

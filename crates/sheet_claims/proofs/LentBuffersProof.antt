@@ -1,29 +1,23 @@
 -- Reading and writing undo each other, of what the contracts give: from the round trips of sheets and the laws between buffers and sheets.
 -- Assumes nothing.
-use Prim.Native.Nat.{ℕ, ◌/◌}
-use mathlib.Core.Path.{◌≡◌, refl, sym, ap, ◌∙◌, subst}
-use mathlib.Core.Bool.{Bool, true, false, cond}
-use mathlib.Core.List.{List, Memᴰ}
-use native.Mathlib.Omega.{arith}
-use lib.ListN.{length, take}
-use lib.Dec.{leb}
+use Rattle.std.proofs.Common.{◌≡◌, ℕ, ◌/◌, Bool, true, false, cond, leb, List, length, take, Ok, Err, Result, sym, refl, ap, ◌∙◌, subst, arith}
+use mathlib.Core.List.{Memᴰ}
 use Rattle.pages.proofs.Laws.{valid_list, list_valid}
 use Rattle.memory.specs.Extends.{HoldsPages}
 use Rattle.processor.specs.Layout.{fields}
 use Rattle.state_words.proofs.Laws.{good_fields}
-use Rattle.replay.specs.declared.steps.Tested.{Tested}
-use Rattle.replay.specs.declared.steps.Tested.TheVariants.{Passed, Failed}
 use Rattle.numbers.specs.Buffers.{laid}
 use Rattle.numbers.proofs.Laws.{laid_front}
+use Rattle.answers.specs.declared.answer.Refusal.{Refusal}
 use Rattle.sheet.specs.Lent.{Buffers, tested}
 use Rattle.sheet.specs.Sheets.{Page, Saved, Sheeted, WholePages, pages_of, ascended, saved_of, entries_of, bytes_of, buffers_of, text}
 use Rattle.sheet.specs.Reading.{Parsed, sheet, no_sheet, parsed}
 use Rattle.sheet.proofs.TestedLaws.{passes, passed}
 use Rattle.sheet_read.specs.Reads.{read_number, Read, by_test, by_text, fits, filled, sizes_of, reads}
 use Rattle.sheet_read.specs.declared.buffers.Sizes.{Sizes}
-use Rattle.sheet_read.specs.declared.buffers.Reading.TheVariants.{Done as ReadDone, TooLong as ReadTooLong}
+use Rattle.sheet_read.specs.declared.buffers.ReadError.TheVariants.{TooLong as ReadTooLong}
 use Rattle.sheet_write.specs.Writes.{write_number, Written, by_test as written_by_test, printed, writes}
-use Rattle.sheet_write.specs.declared.text.Writing.TheVariants.{Done as WriteDone, TooLong as WriteTooLong}
+use Rattle.sheet_write.specs.declared.text.WriteError.TheVariants.{TooLong as WriteTooLong}
 use Rattle.sheet_write.specs.Laying.{text_length}
 use Rattle.sheet_write.proofs.Sizes.{text_size, nonzeros_most}
 use Rattle.sheet_claims.specs.RoundTrips.{Typed, SavedSheeted}
@@ -36,33 +30,33 @@ use Rattle.sheet_claims.proofs.Ordered.{every_map, every_self, every_ascended, m
 -- ---- a write that is done, and one that is not
 
 -- a write that is done was tested, and laid the whole text
-record WriteWas (test : Tested) (whole out : List ℕ) (long : ℕ) : Type 0 where
-  good : test ≡ Passed
+record WriteWas (test : Result (Unit {0}) Refusal) (whole out : List ℕ) (long : ℕ) : Type 0 where
+  good : test ≡ Ok tt
   whole_long : length whole ≡ long
   left : (written_by_test test whole out).text ≡ laid out 0 whole
 
 abbrev printed_if : Bool → List ℕ → List ℕ → Written
-printed_if fits whole out = cond fits (record { answer = WriteDone (length whole); text = laid out 0 whole }) (record { answer = WriteTooLong (length whole); text = out })
+printed_if fits whole out = cond fits (record { answer = Ok (length whole); text = laid out 0 whole }) (record { answer = Err (WriteTooLong (length whole)); text = out })
 
-printed_was : (fits : Bool) (whole out : List ℕ) (long : ℕ) → (printed_if fits whole out).answer ≡ WriteDone long → (length whole ≡ long) × ((printed_if fits whole out).text ≡ laid out 0 whole)
+printed_was : (fits : Bool) (whole out : List ℕ) (long : ℕ) → (printed_if fits whole out).answer ≡ Ok long → (length whole ≡ long) × ((printed_if fits whole out).text ≡ laid out 0 whole)
 printed_was true whole out long e = (cc, refl)
-printed_was false whole out long e = let z : ◌≡◌ {A = ℕ} 0 1 = cc in absurd (omega arith)
+printed_was false whole out long e = absurd cc
 
-write_was : (test : Tested) (whole out : List ℕ) (long : ℕ) → (written_by_test test whole out).answer ≡ WriteDone long → WriteWas test whole out long
+write_was : (test : Result (Unit {0}) Refusal) (whole out : List ℕ) (long : ℕ) → (written_by_test test whole out).answer ≡ Ok long → WriteWas test whole out long
 unfolding printed
-write_was Passed whole out long e =
+write_was (Ok x) whole out long e =
     let was = printed_was (leb (length whole) (length out)) whole out long e in
     record { good = refl; whole_long = was.0; left = was.1 }
-write_was (Failed refusal) whole out long e = let z : ◌≡◌ {A = ℕ} 0 1 = cc in absurd (omega arith)
+write_was (Err refusal) whole out long e = absurd cc
 
 printed_untouched : (fits : Bool) (whole out : List ℕ) → (write_number (printed_if fits whole out).answer ≡ 0 → ⊥) → (printed_if fits whole out).text ≡ out
 printed_untouched true whole out e = absurd (e refl)
 printed_untouched false whole out e = refl
 
-untouched_by : (test : Tested) (whole out : List ℕ) → (write_number (written_by_test test whole out).answer ≡ 0 → ⊥) → (written_by_test test whole out).text ≡ out
+untouched_by : (test : Result (Unit {0}) Refusal) (whole out : List ℕ) → (write_number (written_by_test test whole out).answer ≡ 0 → ⊥) → (written_by_test test whole out).text ≡ out
 unfolding printed
-untouched_by Passed whole out e = printed_untouched (leb (length whole) (length out)) whole out e
-untouched_by (Failed refusal) whole out e = refl
+untouched_by (Ok x) whole out e = printed_untouched (leb (length whole) (length out)) whole out e
+untouched_by (Err refusal) whole out e = refl
 
 pub write_untouched : WriteUntouched
 unfolding writes
@@ -74,39 +68,39 @@ write_untouched run out e = untouched_by (tested run) (text (saved_of run)) out 
 record ReadWas (t : List ℕ) (lent : Buffers) (sizes : Sizes) : Type 0 where
   saved : Saved
   from : parsed t ≡ sheet saved
-  good : tested (buffers_of saved) ≡ Passed
+  good : tested (buffers_of saved) ≡ Ok tt
   long : sizes_of (buffers_of saved) ≡ sizes
   left : (reads t lent).buffers ≡ filled (buffers_of saved) lent
 
 abbrev read_if : Bool → Buffers → Buffers → Read
-read_if fit run lent = cond fit (record { answer = ReadDone (sizes_of run); buffers = filled run lent }) (record { answer = ReadTooLong (sizes_of run); buffers = lent })
+read_if fit run lent = cond fit (record { answer = Ok (sizes_of run); buffers = filled run lent }) (record { answer = Err (ReadTooLong (sizes_of run)); buffers = lent })
 
-fit_was : (fit : Bool) (run lent : Buffers) (sizes : Sizes) → (read_if fit run lent).answer ≡ ReadDone sizes → (sizes_of run ≡ sizes) × ((read_if fit run lent).buffers ≡ filled run lent)
+fit_was : (fit : Bool) (run lent : Buffers) (sizes : Sizes) → (read_if fit run lent).answer ≡ Ok sizes → (sizes_of run ≡ sizes) × ((read_if fit run lent).buffers ≡ filled run lent)
 fit_was true run lent sizes e = (cc, refl)
-fit_was false run lent sizes e = let z : ◌≡◌ {A = ℕ} 0 1 = cc in absurd (omega arith)
+fit_was false run lent sizes e = absurd cc
 
-test_was : (test : Tested) (run lent : Buffers) (sizes : Sizes) → (by_test test run lent).answer ≡ ReadDone sizes
-    → (test ≡ Passed) × (sizes_of run ≡ sizes) × ((by_test test run lent).buffers ≡ filled run lent)
-test_was Passed run lent sizes e = let was = fit_was (fits run lent) run lent sizes e in (refl, was.0, was.1)
-test_was (Failed refusal) run lent sizes e = let z : ◌≡◌ {A = ℕ} 0 1 = cc in absurd (omega arith)
+test_was : (test : Result (Unit {0}) Refusal) (run lent : Buffers) (sizes : Sizes) → (by_test test run lent).answer ≡ Ok sizes
+    → (test ≡ Ok tt) × (sizes_of run ≡ sizes) × ((by_test test run lent).buffers ≡ filled run lent)
+test_was (Ok x) run lent sizes e = let was = fit_was (fits run lent) run lent sizes e in (refl, was.0, was.1)
+test_was (Err refusal) run lent sizes e = absurd cc
 
-read_was : (t : List ℕ) (lent : Buffers) (sizes : Sizes) → (reads t lent).answer ≡ ReadDone sizes → ReadWas t lent sizes
+read_was : (t : List ℕ) (lent : Buffers) (sizes : Sizes) → (reads t lent).answer ≡ Ok sizes → ReadWas t lent sizes
 unfolding reads
 read_was t lent sizes e = by (parsed t) refl e
   where
-    by : (p : Parsed) → parsed t ≡ p → (by_text p lent).answer ≡ ReadDone sizes → ReadWas t lent sizes
+    by : (p : Parsed) → parsed t ≡ p → (by_text p lent).answer ≡ Ok sizes → ReadWas t lent sizes
     by (sheet s) same done =
         let was = test_was (tested (buffers_of s)) (buffers_of s) lent sizes done in
         record { saved = s; from = same; good = was.0; long = was.1; left = rw same was.2 }
-    by (no_sheet line) same done = let z : ◌≡◌ {A = ℕ} 0 1 = cc in absurd (omega arith)
+    by (no_sheet line) same done = absurd cc
 
 fit_untouched : (fit : Bool) (run lent : Buffers) → (read_number (read_if fit run lent).answer ≡ 0 → ⊥) → (read_if fit run lent).buffers ≡ lent
 fit_untouched true run lent e = absurd (e refl)
 fit_untouched false run lent e = refl
 
-test_untouched : (test : Tested) (run lent : Buffers) → (read_number (by_test test run lent).answer ≡ 0 → ⊥) → (by_test test run lent).buffers ≡ lent
-test_untouched Passed run lent e = fit_untouched (fits run lent) run lent e
-test_untouched (Failed refusal) run lent e = refl
+test_untouched : (test : Result (Unit {0}) Refusal) (run lent : Buffers) → (read_number (by_test test run lent).answer ≡ 0 → ⊥) → (by_test test run lent).buffers ≡ lent
+test_untouched (Ok x) run lent e = fit_untouched (fits run lent) run lent e
+test_untouched (Err refusal) run lent e = refl
 
 text_untouched : (p : Parsed) (lent : Buffers) → (read_number (by_text p lent).answer ≡ 0 → ⊥) → (by_text p lent).buffers ≡ lent
 text_untouched (sheet s) lent e = test_untouched (tested (buffers_of s)) (buffers_of s) lent e
@@ -143,7 +137,7 @@ longest_text run e =
     rw (text_size run (good_fields run.state has.state) whole) (omega arith)
 
 -- the run, its pages ascending, passes the tests again
-again : (run : Buffers) → tested run ≡ Passed → tested (buffers_of (saved_of run)) ≡ Passed
+again : (run : Buffers) → tested run ≡ Ok tt → tested (buffers_of (saved_of run)) ≡ Ok tt
 unfolding saved_of
 again run e =
     let has = passes run e in
@@ -152,11 +146,11 @@ again run e =
 
 -- a write that is done was of a run that passed its tests, and left its text, which is read back
 record Back (run : Buffers) (out : List ℕ) (long : ℕ) : Type 0 where
-  good : tested run ≡ Passed
+  good : tested run ≡ Ok tt
   sheeted : Sheeted (saved_of run)
   read : parsed (take long (writes run out).text) ≡ sheet (saved_of run)
 
-back_read : (run : Buffers) (out : List ℕ) (long : ℕ) → Typed run → (writes run out).answer ≡ WriteDone long → Back run out long
+back_read : (run : Buffers) (out : List ℕ) (long : ℕ) → Typed run → (writes run out).answer ≡ Ok long → Back run out long
 unfolding writes
 back_read run out long typed e =
     let was = write_was (tested run) (text (saved_of run)) out long e in

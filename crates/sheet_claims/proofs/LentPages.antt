@@ -1,14 +1,9 @@
 -- The pages of the lent buffers, by their places in the list. Assumes nothing.
-use Prim.Native.Nat.{ℕ, zero, suc, ◌+◌, ◌*◌, ◌<◌}
+use Rattle.std.proofs.Common.{◌≡◌, ℕ, zero, suc, ◌+◌, ◌*◌, ◌<◌, List, [], ◌∷◌, length, get_or, take, drop, Ok, sym, refl, ap, ◌∙◌, subst, ap₂, arith, drop-drop}
 use mathlib.Core.List.Memᴰ
-use mathlib.Core.List.{List, [], ◌∷◌, Memᴰ}
-use mathlib.Core.Path.{◌≡◌, refl, sym, ap, ap₂, ◌∙◌, subst}
-use native.Mathlib.Omega.{arith}
-use lib.ListN.{length, get_or, take, drop}
-use lib.Seq.{drop-drop}
+use mathlib.Core.List.{Memᴰ}
 use Rattle.pages.specs.Pages.{page_bytes, listing}
 use Rattle.memory.specs.Extends.{page_at, HoldsPages}
-use Rattle.pages.specs.declared.pages.Listing.TheVariants.{Valid}
 use Rattle.pages.proofs.Laws.{valid_list}
 use Rattle.sheet.specs.Sheets.{Page, Ascending, pages_of, ascended, entries_of}
 use Rattle.sheet_claims.proofs.Ordered.{Every, every_mem, ascended_ascending}
@@ -70,5 +65,5 @@ held_lent pages₁ bytes₁ pages₂ bytes₂ all = record {
 
 -- ---- a valid list, in ascending order
 
-pub lent_ascending : (entries bytes : List ℕ) → listing entries (length bytes) ≡ Valid → Ascending 0 (ascended (pages_of entries bytes))
+pub lent_ascending : (entries bytes : List ℕ) → listing entries (length bytes) ≡ Ok tt → Ascending 0 (ascended (pages_of entries bytes))
 lent_ascending entries bytes valid = ascended_ascending (pages_of entries bytes) (rw (lent_entries entries bytes) (valid_list entries (length bytes) valid).apart)

@@ -1,11 +1,5 @@
 -- Reading looks no further than the first line that it leaves: whatever stands behind that line, it is left. Assumes nothing.
-use Prim.Native.Nat.{ℕ, zero, suc, ◌+◌, ◌<◌, ◌≤◌}
-use mathlib.Core.Bool.{Bool, true, false, cond, ◌&&◌}
-use mathlib.Core.List.{List, [], ◌∷◌, ◌++◌}
-use mathlib.Core.Path.{◌≡◌, refl, subst₂}
-use native.Mathlib.Omega.{arith}
-use lib.ListN.{length, take, drop, length-append, length-drop}
-use lib.Dec.{leb}
+use Rattle.std.proofs.Common.{◌≡◌, ℕ, zero, suc, ◌+◌, ◌<◌, ◌≤◌, Bool, true, false, cond, ◌&&◌, leb, List, [], ◌∷◌, ◌++◌, length, take, drop, refl, subst₂, arith, length-append, length-drop}
 use Rattle.pages.specs.Pages.{page_of}
 use Rattle.sheet.specs.Lines.{is_line}
 use Rattle.sheet.specs.Sheets.{slots}

@@ -1,10 +1,5 @@
 -- What is read as a number: its text, and nothing else. Assumes nothing.
-use Prim.Native.Nat.{ℕ}
-use mathlib.Core.Path.{◌≡◌, refl}
-use mathlib.Core.Bool.{Bool, true, false}
-use native.Mathlib.Omega.{arith}
-use lib.ListN.{length, take, drop}
-use lib.Seq.{take_at}
+use Rattle.std.proofs.Common.{◌≡◌, ℕ, Bool, true, false, length, take, drop, refl, arith, take_at}
 use Rattle.texts.specs.Digits.{digits, hex, number, value_of}
 use Rattle.texts.specs.Fields.{number_form, begins, numeral}
 use Rattle.texts.proofs.DigitLaws.{hex_length, number_length, value_hex}
@@ -26,4 +21,4 @@ only_numbers v u e = go (begins number_form u) refl
         let same = rw h at e in
         let v_is : v ≡ value_of (take digits (drop 1 u)) = cc in
         rw (number_length v, v_is) (number_front u h)
-    go false h = let same = rw h at e in let z : ◌≡◌ {A = ℕ} 0 1 = cc in absurd (omega arith)
+    go false h = let same = rw h at e in absurd cc

@@ -1,16 +1,10 @@
 -- The pages in ascending order: the same pages, whatever their order was, and strictly ascending where no two have one address.
 -- Assumes nothing.
-use Prim.Native.Nat.{ℕ, zero, suc, ◌<◌, ◌≤◌}
-use mathlib.Core.Bool.{Bool, true, false, cond}
+use Rattle.std.proofs.Common.{◌≡◌, ℕ, zero, suc, ◌<◌, ◌≤◌, Bool, true, false, cond, leb, ◌⊎◌, List, [], ◌∷◌, length, get_or, sym, refl, ap, ◌∙◌, subst, inl, inr, arith, le-leb, leb-false, leb-true}
 use mathlib.Core.List.Memᴰ
-use mathlib.Core.List.{List, [], ◌∷◌, Memᴰ}
-use mathlib.Core.Logic.{◌⊎◌, inl, inr}
-use mathlib.Core.Path.{◌≡◌, refl, sym, ap, ◌∙◌, subst}
-use native.Mathlib.Omega.{arith}
-use lib.ListN.{length, get_or}
-use lib.Dec.{leb}
-use borrow.Author.Tests.{le-leb, leb-true, leb-false}
-use Rattle.pages.specs.Pages.{any_entry, repeated}
+use mathlib.Core.List.{Memᴰ}
+use Rattle.std.specs.List.{list_any}
+use Rattle.pages.specs.Pages.{repeated}
 use Rattle.pages.proofs.Laws.{none_passes, each_fails, Apart, once_apart, apart_once}
 use Rattle.sheet.specs.Sheets.{Page, Ascending, insert, ascended, entries_of}
 use Rattle.order.specs.Order.{page_number}
@@ -125,10 +119,10 @@ at_every P [] all i h = absurd (omega arith)
 at_every P (p ∷ ps) all zero h = all.0
 at_every P (p ∷ ps) all (suc i) h = at_every P ps all.1 i (omega arith)
 
-pub any_every : (test : ℕ → Bool) (ps : List Page) → any_entry test (entries_of ps) ≡ false → Every (λ p. test p.entry ≡ false) ps
+pub any_every : (test : ℕ → Bool) (ps : List Page) → list_any test (entries_of ps) ≡ false → Every (λ p. test p.entry ≡ false) ps
 any_every test ps e = every_at (λ n. test n ≡ false) ps (none_passes test (entries_of ps) e)
 
-pub every_any : (test : ℕ → Bool) (ps : List Page) → Every (λ p. test p.entry ≡ false) ps → any_entry test (entries_of ps) ≡ false
+pub every_any : (test : ℕ → Bool) (ps : List Page) → Every (λ p. test p.entry ≡ false) ps → list_any test (entries_of ps) ≡ false
 every_any test ps all = each_fails test (entries_of ps) (at_every (λ n. test n ≡ false) ps all)
 
 apart_ascending : (ps : List Page) → Apart (entries_of ps) → Ascending 0 (ascended ps)

@@ -1,13 +1,7 @@
 -- The four ways in which reading some lines ends, each with what the lines then are. Assumes nothing.
-use Prim.Native.Nat.{ℕ, suc, ◌-◌}
-use mathlib.Core.Bool.{Bool, true, false, true≢false, and-eq-true_iff}
-use mathlib.Core.List.{List, [], ◌∷◌, ◌++◌, append-nil}
-use mathlib.Core.Path.{◌≡◌, refl, sym, ap, ap₂, ◌∙◌}
-use native.Mathlib.Omega.{arith}
-use lib.ListN.{length, take, drop, length-append, length-drop}
-use lib.Seq.{drop-drop}
-use lib.Dec.{eqb, eqb-suc-zero}
-use borrow.Author.Tests.{eqb-true}
+use Rattle.std.proofs.Common.{◌≡◌, ℕ, suc, ◌-◌, Bool, true, false, eqb, List, [], ◌∷◌, ◌++◌, length, take, drop, sym, refl, ap, ◌∙◌, ap₂, true≢false, append-nil, arith, length-append, length-drop, drop-drop, eqb-true}
+use mathlib.Core.Bool.{and-eq-true_iff}
+use lib.Dec.{eqb-suc-zero}
 use Rattle.sheet.specs.Lines.{line, is_line, values}
 use Rattle.sheet.specs.Sheets.{Saved, Sheeted, version, sheet_lines}
 use Rattle.sheet.specs.Reading.{sheet, no_sheet, value, next, stages, parsed_body, parsed_lines}

@@ -1,12 +1,7 @@
 -- Plain lines, of any kind: printed and read back, and taken and printed again. Assumes nothing.
-use Prim.Native.Nat.{ℕ, zero, suc, ◌+◌, ◌*◌, ◌/◌, ◌%◌, ◌^◌}
-use mathlib.Core.Bool.{Bool, true, false, cond}
-use mathlib.Core.List.{List, [], ◌∷◌, ◌++◌}
-use mathlib.Core.Path.{◌≡◌, refl, sym, ap, ◌∙◌}
-use native.Mathlib.Nat.{mul-zero, mul-suc, mul-mod_right, div-add-mod, div-eq_of_eq-mul_right}
-use native.Mathlib.Omega.{arith}
-use lib.ListN.{length, take, drop, length-append, length-drop, take-append-drop}
-use lib.Seq.{take_at, drop_at, length-take-le, take-append_seam, drop-append_seam}
+use Rattle.std.proofs.Common.{◌≡◌, ℕ, zero, suc, ◌+◌, ◌*◌, ◌/◌, ◌%◌, ◌^◌, Bool, true, false, cond, List, [], ◌∷◌, ◌++◌, length, take, drop, sym, refl, ap, ◌∙◌, mul-zero, mul-suc, arith, length-append, length-drop, take-append-drop, length-take-le, take_at, drop_at}
+use native.Mathlib.Nat.{mul-mod_right, div-add-mod, div-eq_of_eq-mul_right}
+use lib.Seq.{take-append_seam, drop-append_seam}
 use Rattle.texts.specs.Digits.{Below}
 use Rattle.sheet.specs.Lines.{field_count, line, is_line, values}
 use Rattle.sheet.specs.Sheets.{plain_lines, all_plain}

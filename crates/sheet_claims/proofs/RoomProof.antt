@@ -1,14 +1,8 @@
 -- Refusal 8 is given exactly where a result does not fit, and after every other refusal. Assumes nothing.
-use Prim.Native.Nat.{ℕ}
-use mathlib.Core.Path.{◌≡◌, refl}
-use mathlib.Core.Bool.{Bool, true, false}
-use mathlib.Core.List.{List}
-use lib.ListN.{length}
-use lib.Dec.{leb}
-use borrow.Author.Tests.{le-leb, lt-leb, leb-true}
+use Rattle.std.proofs.Common.{◌≡◌, ℕ, Bool, true, false, leb, List, length, Ok, Err, Result, refl, le-leb, leb-true}
+use borrow.Author.Tests.{lt-leb}
 use Rattle.answers.specs.Answer.{room_number}
-use Rattle.replay.specs.declared.steps.Tested.{Tested}
-use Rattle.replay.specs.declared.steps.Tested.TheVariants.{Passed, Failed}
+use Rattle.answers.specs.declared.answer.Refusal.{Refusal}
 use Rattle.texts.proofs.DigitLaws.{both}
 use Rattle.sheet.specs.Lent.{Buffers, tested}
 use Rattle.sheet.specs.Sheets.{buffers_of, saved_of, text}
@@ -57,10 +51,10 @@ pub read_room_last : ReadRoomLast
 unfolding reads
 read_room_last t lent other done long = by_text_lem (parsed t) done long
   where
-    by_test_lem : (found : Tested) (run : Buffers) → (read_number (by_test found run lent).answer ≡ 0 → ⊥) → (read_number (by_test found run lent).answer ≡ room_number → ⊥)
+    by_test_lem : (found : Result (Unit {0}) Refusal) (run : Buffers) → (read_number (by_test found run lent).answer ≡ 0 → ⊥) → (read_number (by_test found run lent).answer ≡ room_number → ⊥)
         → (by_test found run other).answer ≡ (by_test found run lent).answer
-    by_test_lem Passed run done long = absurd (delivered_none run lent done long)
-    by_test_lem (Failed refusal) run done long = refl
+    by_test_lem (Ok x) run done long = absurd (delivered_none run lent done long)
+    by_test_lem (Err refusal) run done long = refl
 
     by_text_lem : (p : Parsed) → (read_number (by_text p lent).answer ≡ 0 → ⊥) → (read_number (by_text p lent).answer ≡ room_number → ⊥) → (by_text p other).answer ≡ (by_text p lent).answer
     by_text_lem (sheet s) done long = by_test_lem (tested (buffers_of s)) (buffers_of s) done long
@@ -78,8 +72,8 @@ pub write_room_last : WriteRoomLast
 unfolding writes
 write_room_last run out other done long = by_test_lem (tested run) done long
   where
-    by_test_lem : (found : Tested) → (write_number (written_by_test found (text (saved_of run)) out).answer ≡ 0 → ⊥)
+    by_test_lem : (found : Result (Unit {0}) Refusal) → (write_number (written_by_test found (text (saved_of run)) out).answer ≡ 0 → ⊥)
         → (write_number (written_by_test found (text (saved_of run)) out).answer ≡ room_number → ⊥)
         → (written_by_test found (text (saved_of run)) other).answer ≡ (written_by_test found (text (saved_of run)) out).answer
-    by_test_lem Passed done long = absurd (printed_none (text (saved_of run)) out done long)
-    by_test_lem (Failed refusal) done long = refl
+    by_test_lem (Ok x) done long = absurd (printed_none (text (saved_of run)) out done long)
+    by_test_lem (Err refusal) done long = refl

@@ -1,7 +1,5 @@
 -- Reading and writing undo each other. Assumes nothing.
-use Prim.Native.Nat.{ℕ}
-use mathlib.Core.Path.{◌≡◌, ap, ◌∙◌, subst}
-use native.Mathlib.Omega.{arith}
+use Rattle.std.proofs.Common.{◌≡◌, ℕ, ap, ◌∙◌, subst, arith}
 use Rattle.texts.specs.Fields.{lines, joined}
 use Rattle.sheet.specs.Sheets.{Saved, Sheeted, sheet_lines, text}
 use Rattle.sheet.specs.Reading.{parsed_body, parsed}
@@ -23,7 +21,7 @@ unfolding parsed text
 writes_back t s e = by (outcome (lines t))
   where
     by : Outcome (lines t) → Sheeted s × (text s ≡ t)
-    by (no_head h none) = let z : ◌≡◌ {A = ℕ} 0 1 = cc in absurd (omega arith)
-    by (no_state first h none) = let z : ◌≡◌ {A = ℕ} 0 1 = cc in absurd (omega arith)
+    by (no_head h none) = absurd cc
+    by (no_state first h none) = absurd cc
     by (whole r h lines_are read) = let same : r ≡ s = cc in subst (λ (q : Saved). Sheeted q × (text q ≡ t)) same (h, ap joined lines_are ∙ joined_lines t)
-    by (stopped r l rest h lines_are left none) = let z : ◌≡◌ {A = ℕ} 0 1 = cc in absurd (omega arith)
+    by (stopped r l rest h lines_are left none) = absurd cc

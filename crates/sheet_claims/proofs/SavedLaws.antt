@@ -1,14 +1,8 @@
 -- The pages of a valid list are saved whole; the list in ascending order, with its bytes, is valid again; and the buffers that a
 -- run with a sheet fills are saved as that run. Assumes nothing.
-use Prim.Native.Nat.{ℕ, suc, ◌*◌, ◌^◌, ◌<◌}
-use mathlib.Core.Bool.{Bool, false}
-use mathlib.Core.List.{List, [], ◌∷◌}
-use mathlib.Core.Path.{◌≡◌, refl, sym, ap, ◌∙◌}
-use native.Mathlib.Omega.{arith}
-use lib.ListN.{length, drop, length-append, length-drop}
-use lib.Seq.{length-take-le, take_at, drop_at}
-use Rattle.pages.specs.Pages.{page_bytes, bad_kind, bad_address, any_entry, listing}
-use Rattle.pages.specs.declared.pages.Listing.TheVariants.{Valid}
+use Rattle.std.proofs.Common.{◌≡◌, ℕ, suc, ◌*◌, ◌^◌, ◌<◌, Bool, false, List, [], ◌∷◌, length, drop, Ok, sym, refl, ap, ◌∙◌, arith, length-append, length-drop, length-take-le, take_at, drop_at}
+use Rattle.std.specs.List.{list_any}
+use Rattle.pages.specs.Pages.{page_bytes, bad_kind, bad_address, listing}
 use Rattle.pages.proofs.Laws.{ValidList, valid_list, list_valid}
 use Rattle.texts.specs.Digits.{Below}
 use Rattle.sheet.specs.Sheets.{Page, Saved, WholePage, WholePages, Sheeted, pages_of, ascended, saved_of, entries_of, bytes_of, buffers_of}
@@ -33,7 +27,7 @@ unfolding WholePages
 every_whole [] all = tt
 every_whole (p ∷ ps) all = (all.0, every_whole ps all.1)
 
-module _ (entries bytes : List ℕ) (is-valid : listing entries (length bytes) ≡ Valid) where
+module _ (entries bytes : List ℕ) (is-valid : listing entries (length bytes) ≡ Ok tt) where
   tests : ValidList entries (length bytes)
   tests = valid_list entries (length bytes) is-valid
 
@@ -56,11 +50,11 @@ module _ (entries bytes : List ℕ) (is-valid : listing entries (length bytes) �
       let all = every_ascended (λ p. length p.bytes ≡ page_bytes) (pages_of entries bytes) (lent_every (λ p. length p.bytes ≡ page_bytes) entries bytes page_long) in
       length_bytes ps all ∙ ap (λ (n : ℕ). page_bytes * n) length_ps ∙ sym lent_is
 
-  no_such_entry : (test : ℕ → Bool) → any_entry test entries ≡ false → any_entry test (entries_of ps) ≡ false
+  no_such_entry : (test : ℕ → Bool) → list_any test entries ≡ false → list_any test (entries_of ps) ≡ false
   no_such_entry test none =
       every_any test ps (every_ascended (λ p. test p.entry ≡ false) (pages_of entries bytes) (any_every test (pages_of entries bytes) (rw (lent_entries entries bytes) none)))
 
-  pub ascended_valid : listing (entries_of ps) (length (bytes_of ps)) ≡ Valid
+  pub ascended_valid : listing (entries_of ps) (length (bytes_of ps)) ≡ Ok tt
   ascended_valid =
       list_valid (entries_of ps) (length (bytes_of ps))
       (record {

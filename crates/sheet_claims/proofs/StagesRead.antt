@@ -1,11 +1,6 @@
 -- The lines of a printed sheet, read back stage by stage: nothing is left. Assumes nothing.
-use Prim.Native.Nat.{ℕ, suc}
-use mathlib.Core.Bool.{false}
-use mathlib.Core.List.{List, [], ◌∷◌, ◌++◌, append-nil}
-use mathlib.Core.Path.{◌≡◌, refl, ap}
-use lib.ListN.{length}
+use Rattle.std.proofs.Common.{◌≡◌, ℕ, suc, false, List, [], ◌∷◌, ◌++◌, length, refl, ap, append-nil, le-leb}
 use lib.Seq.{take-append_seam, drop-append_seam}
-use borrow.Author.Tests.{le-leb}
 use Rattle.sheet.specs.Lines.{line, is_line}
 use Rattle.sheet.specs.Sheets.{Page, Saved, Sheeted, Ascending, WholePages, pages_words, page_lines, entries_of, all_plain}
 use Rattle.order.specs.Order.{page_number}

@@ -1,12 +1,6 @@
 -- The lines that the stages take, printed again: with those that are left they are the lines that were read. Assumes nothing.
-use Prim.Native.Nat.{ℕ, suc, ◌^◌}
-use mathlib.Core.Bool.{Bool, true, false, cond, ◌&&◌, and-eq-true_iff}
-use mathlib.Core.List.{List, [], ◌∷◌, ◌++◌, append_assoc}
-use mathlib.Core.Path.{◌≡◌, refl}
-use native.Mathlib.Omega.{arith}
-use lib.ListN.{length, take, drop, take-append-drop}
-use lib.Dec.{leb}
-use borrow.Author.Tests.{leb-true}
+use Rattle.std.proofs.Common.{◌≡◌, ℕ, suc, ◌^◌, Bool, true, false, cond, ◌&&◌, leb, List, [], ◌∷◌, ◌++◌, length, take, drop, refl, append_assoc, arith, take-append-drop, leb-true}
+use mathlib.Core.Bool.{and-eq-true_iff}
 use Rattle.pages.specs.Pages.{page_of}
 use Rattle.texts.specs.Digits.{Below}
 use Rattle.sheet.specs.Lines.{field_count, is_line, values}

@@ -1,5 +1,5 @@
 -- The worked sheets, computed. Assumes nothing.
-use mathlib.Core.Path.{refl}
+use Rattle.std.proofs.Common.{refl}
 use Rattle.numbers.specs.Numbers.{number_at}
 use Rattle.pages.specs.Pages.{page_of}
 use Rattle.order.specs.Order.{page_number}

@@ -1,8 +1,7 @@
 -- Two inputs of equal meaning have one text: the order of a page list does not show. Assumes nothing.
-use Rattle.std.specs.Prelude.{◌≡◌, List, ℕ, length}
+use Rattle.std.specs.Prelude.{◌≡◌, List, ℕ, length, Ok}
 use Rattle.pages.specs.Pages.{listing}
 use Rattle.memory.specs.Extends.{HoldsPages}
-use Rattle.pages.specs.declared.pages.Listing.TheVariants.{Valid}
 use Rattle.sheet.specs.Lent.{Buffers}
 use Rattle.sheet.specs.Sheets.{saved_of, text}
 use Rattle.sheet_write.specs.Writes.{writes}
@@ -11,8 +10,8 @@ use Rattle.sheet_write.specs.Writes.{writes}
 pub record EqualMeaning (a b : Buffers) : Type 0 where
   pub state : a.state ≡ b.state
   pub words : a.words ≡ b.words
-  pub valid_a : listing a.pages (length a.bytes) ≡ Valid
-  pub valid_b : listing b.pages (length b.bytes) ≡ Valid
+  pub valid_a : listing a.pages (length a.bytes) ≡ Ok tt
+  pub valid_b : listing b.pages (length b.bytes) ≡ Ok tt
   pub there : HoldsPages a.pages a.bytes b.pages b.bytes
   pub back : HoldsPages b.pages b.bytes a.pages a.bytes
 

@@ -1,6 +1,5 @@
 -- Reading and writing undo each other. Assumes nothing.
-use Rattle.std.specs.Prelude.{◌≡◌, List, ℕ, ◌^◌}
-use Rattle.replay.specs.declared.steps.Tested.TheVariants.{Passed}
+use Rattle.std.specs.Prelude.{◌≡◌, List, ℕ, ◌^◌, Ok}
 use Rattle.texts.specs.Digits.{Below}
 use Rattle.sheet.specs.Lent.{Buffers, tested}
 use Rattle.sheet.specs.Sheets.{Saved, Sheeted, saved_of, text}
@@ -15,7 +14,7 @@ pub record Typed (run : Buffers) : Type 0 where
 
 -- what passed the tests of a run is saved as a run that has a sheet, its pages ascending
 abbrev pub SavedSheeted : Type 0
-SavedSheeted = (run : Buffers) → Typed run → tested run ≡ Passed → Sheeted (saved_of run)
+SavedSheeted = (run : Buffers) → Typed run → tested run ≡ Ok tt → Sheeted (saved_of run)
 
 -- reading what was written returns the run
 abbrev pub ReadsBack : Type 0

@@ -1,9 +1,9 @@
 -- Laws of counted lines and of what is read from them, for the proofs of this crate's functions. The crates above cite `Rooms`.
 pub mod Rooms
 mod Leads
-mod Places
+mod Rows
 mod Stages
 mod Pages
-mod Bodies
 mod Fills
+mod Bodies
 mod Saved

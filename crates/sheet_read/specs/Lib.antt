@@ -1,3 +1,3 @@
--- What a reader of the contract of `read` must believe, to be read beside crates/sheet/specs. Scan serves private functions only.
+-- What a reader of the contract of `read` must believe, to be read beside crates/sheet/specs: `Reads`. Scan serves private functions only.
 pub mod Reads
 pub mod Scan

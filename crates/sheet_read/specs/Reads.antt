@@ -1,30 +1,29 @@
 -- Reading a sheet into lent buffers (docs/RULES.md, "Run sheets"): the answer, and what every buffer holds after it. Assumes nothing.
-use Rattle.std.specs.Prelude.{ℕ, Bool, cond, ◌&&◌, List, length, leb}
+use Rattle.std.specs.Prelude.{ℕ, Bool, cond, ◌&&◌, List, length, leb, Result, Ok, Err}
 use Rattle.answers.specs.Answer.{refusal_number, room_number, sheet_number}
-use Rattle.replay.specs.declared.steps.Tested.{Tested}
-use Rattle.replay.specs.declared.steps.Tested.TheVariants.{Passed, Failed}
+use Rattle.answers.specs.declared.answer.Refusal.{Refusal}
 use Rattle.sheet.specs.Lent.{Buffers, tested}
 use Rattle.sheet.specs.Sheets.{buffers_of}
 use Rattle.sheet.specs.Reading.{Parsed, sheet, no_sheet, parsed}
 use Rattle.numbers.specs.Buffers.{laid}
 use Rattle.sheet_read.specs.declared.buffers.Sizes.{Sizes}
-use Rattle.sheet_read.specs.declared.buffers.Reading.{Reading}
-use Rattle.sheet_read.specs.declared.buffers.Reading.TheVariants.{Done, NoSheet, Refused, TooLong}
+use Rattle.sheet_read.specs.declared.buffers.ReadError.{ReadError}
+use Rattle.sheet_read.specs.declared.buffers.ReadError.TheVariants.{NoSheet, Refused, TooLong}
 
 -- the refusal of a read, or 0
-abbrev pub read_number : Reading → ℕ
-read_number (Done sizes) = 0
-read_number (NoSheet line) = sheet_number
-read_number (Refused refusal) = refusal_number refusal
-read_number (TooLong sizes) = room_number
+abbrev pub read_number : Result Sizes ReadError → ℕ
+read_number (Ok sizes) = 0
+read_number (Err (NoSheet line)) = sheet_number
+read_number (Err (Refused refusal)) = refusal_number refusal
+read_number (Err (TooLong sizes)) = room_number
 
--- the answer, and what the buffers hold. `Reading` is the type of answers that src/ declares, not the file Reading of crates/sheet/specs
+-- the answer, and what the buffers hold
 pub record Read : Type 0 where
-  pub answer : Reading
+  pub answer : Result Sizes ReadError
   pub buffers : Buffers
 
-abbrev pub untouched : Reading → Buffers → Read
-untouched answer lent = record { answer = answer; buffers = lent }
+abbrev pub untouched : ReadError → Buffers → Read
+untouched error lent = record { answer = Err error; buffers = lent }
 
 -- how much a run takes
 abbrev pub sizes_of : Buffers → Sizes
@@ -50,11 +49,11 @@ filled run lent =
 
 -- a run that passed its tests: into the buffers, or with the sizes that it needs
 abbrev pub delivered : Buffers → Buffers → Read
-delivered run lent = cond (fits run lent) (record { answer = Done (sizes_of run); buffers = filled run lent }) (untouched (TooLong (sizes_of run)) lent)
+delivered run lent = cond (fits run lent) (record { answer = Ok (sizes_of run); buffers = filled run lent }) (untouched (TooLong (sizes_of run)) lent)
 
-abbrev pub by_test : Tested → Buffers → Buffers → Read
-by_test Passed run lent = delivered run lent
-by_test (Failed refusal) run lent = untouched (Refused refusal) lent
+abbrev pub by_test : Result (Unit {0}) Refusal → Buffers → Buffers → Read
+by_test (Ok x) run lent = delivered run lent
+by_test (Err refusal) run lent = untouched (Refused refusal) lent
 
 abbrev pub by_text : Parsed → Buffers → Read
 by_text (sheet s) lent = by_test (tested (buffers_of s)) (buffers_of s) lent

@@ -3,7 +3,10 @@
 
 mod buffers;
 mod fill;
+mod row;
 mod scan;
+mod shape;
 mod stage;
+mod words;
 
-pub use buffers::{Reading, Sizes, read};
+pub use buffers::{ReadError, Sizes, read};

@@ -1,34 +1,54 @@
-// Where lines stand in a text, and the numbers that stand on them.
-ghost use Rattle.std.specs.Prelude.{◌≡◌, true, ◌+◌, ◌*◌, ◌<◌, ◌^◌, take, drop};
-ghost use Rattle.texts.specs.Fields.{begins};
-ghost use Rattle.sheet.specs.Lines.{form, field_count, width};
-ghost use Rattle.sheet.specs.Reading.{value};
+// Lines of one kind, one behind the other.
+ghost use Rattle.std.specs.Prelude.{◌*◌, ◌<◌, ◌≤◌, ◌^◌};
+ghost use Rattle.texts.specs.Fields.{lines};
+ghost use Rattle.sheet.specs.Lines.{width};
+ghost use Rattle.sheet.specs.Reading.{plain_count};
 
+use crate::row::Row;
 use sheet::Line;
-use texts::{FIELD, Numeral, number};
 
-// Lines of one kind, one behind the other: where they begin, and how many they are.
+// A text that begins with so many lines of this kind.
 #[derive(Clone, Copy)]
-pub(crate) struct Stage {
-    pub at: usize,
+pub(crate) struct Stage<'a> {
+    pub kind: Line,
+    pub text: &'a [u8],
     pub count: usize,
+    ghost stands: { count ≤ plain_count kind (lines text.now) },
+    ghost room: { width kind * count < 2 ^ 64 },
 }
 
-// The place behind so many lines of a kind.
-pub(crate) fn past(line: Line, at: usize, n: usize) -> usize
-    requires { at + width line * n < 2 ^ 64 }
-    ensures { result ≡ at + width line * n }
-{
-    at + line.width() * n
-}
+impl<'a> Stage<'a> {
+    ghost use Rattle.std.specs.Prelude.{◌≡◌, length, drop};
+    ghost use Rattle.numbers.specs.Buffers.{laid};
+    ghost use Rattle.sheet.specs.Lines.{field_count};
+    ghost use Rattle.sheet_read.specs.Scan.{numbers_in};
 
-// The i-th number of a line that stands at a place.
-pub(crate) fn field(line: Line, text: &[u8], at: usize, i: usize) -> u64
-    requires { (begins (form line) (drop at text.now) ≡ true) × (i < field_count line) }
-    ensures { result ≡ value line i (take (width line) (drop at text.now)) }
-{
-    match number(text, at + line.first() + FIELD * i) {
-        Numeral::Number(v) => v,
-        Numeral::NoNumber => 0,
+    // The k-th line.
+    pub(crate) fn row(self, k: usize) -> Row<'a>
+        requires { k < self.count }
+        ensures kind { result.kind ≡ self.entry.kind }
+        ensures text { result.text.now ≡ drop (width self.entry.kind * k) self.entry.text.now }
+    {
+        Row {
+            kind: self.kind,
+            text: &self.text[self.kind.width() * k..],
+        }
+    }
+
+    // The text behind them.
+    pub(crate) fn behind(self) -> &'a [u8]
+        ensures { result.now ≡ drop (width self.entry.kind * self.entry.count) self.entry.text.now }
+    {
+        &self.text[self.kind.width() * self.count..]
+    }
+
+    // All numbers on them, to the front of a buffer.
+    pub(crate) fn fill(self, out: &mut [u64])
+        requires { field_count self.kind * self.count ≤ length out.old }
+        ensures { out.new ≡ laid out.old 0 (numbers_in self.entry) }
+    {
+        for k in 0..self.count {
+            self.row(k).fill(out, self.kind.count() * k);
+        }
     }
 }

@@ -5,8 +5,8 @@ use mathlib.Core.List.{List, [], ◌∷◌, ◌++◌}
 use native.Mathlib.Omega.{arith}
 use native.Mathlib.Nat.{div-eq-sub-div, div-eq_of_lt}
 use native.Mathlib.Numerals.{add-one}
-use lib.ListN.{length, get_or, take, drop, length-drop}
-use lib.Seq.{drop-drop}
+use lib.ListN.{length, get_or, take, drop, length-drop, length-append}
+use lib.Seq.{drop-drop, take_at, drop_at}
 use Rattle.numbers.specs.Numbers.{number_at}
 use Rattle.pages.specs.Pages.{page_bytes, page_of}
 use Rattle.order.specs.Order.{page_number}
@@ -75,16 +75,14 @@ module _ (kind : Line) (numbers : List ℕ) where
   unfolding plain_lines joined
   plain_none few = ap (λ (n : ℕ). joined (plain_lines kind n numbers)) (div-eq_of_lt few)
 
--- from a place of the numbers on, as the code lends them
-module _ (kind : Line) (numbers : List ℕ) (at : ℕ) where
-  pub plain_turn : field_count kind ≤ length numbers - at
-      → Begins (joined (all_plain kind (drop at numbers))) (line kind (take (at + field_count kind - at) (drop at numbers))) (joined (all_plain kind (drop (at + field_count kind) numbers)))
-  plain_turn enough =
-      let there : field_count kind ≤ length (drop at numbers) = rw (length-drop at numbers) enough in
-      record { split = plain_more kind (drop at numbers) there ∙ rw (part at (field_count kind) numbers, drop-drop (field_count kind) at numbers) }
-
-  pub plain_end : length numbers - at < field_count kind → joined (all_plain kind (drop at numbers)) ≡ []
-  plain_end few = plain_none kind (drop at numbers) (rw (length-drop at numbers) few)
+-- the numbers of one line, and the others
+pub plain_piece : (kind : Line) (piece rest : List ℕ) → length piece ≡ field_count kind → Begins (joined (all_plain kind (piece ++ rest))) (line kind piece) (joined (all_plain kind rest))
+plain_piece kind piece rest whole =
+    let enough : field_count kind ≤ length (piece ++ rest) = rw length-append (omega arith) in
+    record {
+      split = plain_more kind (piece ++ rest) enough
+          ∙ ap₂ (λ (own later : List ℕ). line kind own ++ joined (all_plain kind later)) (take_at piece rest (field_count kind) whole) (drop_at piece rest (field_count kind) whole);
+    }
 
 -- ---- the pages
 

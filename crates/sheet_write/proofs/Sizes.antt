@@ -28,7 +28,7 @@ use Rattle.sheet_write.proofs.Ascending.{le_or_lt, before, past}
 use Rattle.sheet_write.proofs.Lays.{Begins, joined_one}
 use Rattle.sheet_write.proofs.Rests.{words_suc, pages_cons}
 use Rattle.sheet_write.proofs.Texts.{pieces, in_pieces}
-use Rattle.sheet_write.proofs.ValueLaws.{nonzeros_suc}
+use Rattle.sheet_write.proofs.ValueLaws.{nonzeros_suc, number_take}
 
 -- a text's first piece and the others
 parts : (rest piece later : List ℕ) → Begins rest piece later → length rest ≡ length piece + length later
@@ -52,12 +52,6 @@ words_size address (suc n) bytes =
     let first = one_word address (number_at bytes 0 8) in
     let rest = words_size (address + 8) n (drop 8 bytes) in
     whole ∙ rw (first, rest) (omega arith)
-
-number_take : (place n m : ℕ) (bytes : List ℕ) → place + n ≤ m → number_at (take m bytes) place n ≡ number_at bytes place n
-unfolding number_at
-number_take place zero m bytes h = refl
-number_take place (suc n) m bytes h =
-    ap₂ (λ (byte rest : ℕ). byte + 256 * rest) (get_or-take m bytes place 0 (omega arith)) (number_take (suc place) n m bytes (omega arith))
 
 drop_take : (n m : ℕ) (xs : List ℕ) → drop n (take (n + m) xs) ≡ take m (drop n xs)
 drop_take zero m xs = let all : 0 + m ≡ m = omega arith in ap (λ (k : ℕ). take k xs) all

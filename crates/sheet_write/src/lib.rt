@@ -5,4 +5,4 @@ mod lay;
 mod text;
 mod values;
 
-pub use text::{Writing, write};
+pub use text::{WriteError, write};

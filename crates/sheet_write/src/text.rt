@@ -1,30 +1,35 @@
 // A run into the text of its sheet: nothing is written before the run is judged and the text is known to fit.
-ghost use Rattle.std.specs.Prelude.{◌≡◌, ◌*◌, ◌≤◌};
+ghost use Rattle.std.specs.Prelude.{◌≡◌, ◌*◌, ◌≤◌, Ok};
 ghost use Rattle.pages.specs.Pages.{page_limit};
 ghost use Rattle.replay.specs.Run.{instruction_limit};
-ghost use Rattle.replay.specs.declared.steps.Tested.TheVariants.{Passed};
-ghost use Rattle.sheet.specs.Lent.{tested};
+ghost use Rattle.sheet.specs.Lent.{buffers_in, tested};
 ghost use Rattle.sheet.specs.Sheets.{slots, text as text_of, saved_of};
 ghost use Rattle.sheet_write.specs.Laying.{text_length};
 ghost use Rattle.sheet_write.specs.Writes.{printed, writes};
+ghost use Rattle.sheet_write.specs.declared.text.WriteError.TheVariants.{Refused as RefusedError};
 
 use crate::lay::lay;
 use crate::values::nonzero;
 use instructions::INSTRUCTION_WORDS;
 use processor::Refusal;
-use replay::Tested;
-use sheet::Line;
+use sheet::{Line, Parts};
 use state_words::good_state;
 
-// What writing a run answers.
+// Why a run is not written; the text is then as it was.
 #[derive(Clone, Copy)]
-pub enum Writing {
-    // The buffer begins with the sheet, which is so long.
-    Done(usize),
+pub enum WriteError {
     // The run is refused before its first step.
     Refused(Refusal),
     // The buffer is too short; the sheet is so long.
     TooLong(usize),
+}
+
+impl From<Refusal> for WriteError {
+    ghost from_gives = { λ r e. e ≡ RefusedError r };
+
+    fn from(refusal: Refusal) -> WriteError {
+        WriteError::Refused(refusal)
+    }
 }
 
 // How long a sheet is with so many pages, values and instructions.
@@ -39,25 +44,25 @@ fn text_length(pages: usize, values: usize, steps: usize) -> usize
 }
 
 // Writes a run that is not refused.
-fn print(state: &[u64], pages: &[u64], bytes: &[u8], words: &[u64], text: &mut [u8]) -> Writing
-    requires { tested (record { state = state.now; pages = pages.now; bytes = bytes.now; words = words.now }) ≡ Passed }
-    ensures { record { answer = result; text = text.new } ≡ printed (text_of (saved_of (record { state = state.now; pages = pages.now; bytes = bytes.now; words = words.now }))) text.old }
+fn print(parts: Parts<'_>, text: &mut [u8]) -> Result<usize, WriteError>
+    requires { tested (buffers_in parts) ≡ Ok tt }
+    ensures { record { answer = result; text = text.new } ≡ printed (text_of (saved_of (buffers_in parts.entry))) text.old }
 {
-    let long = text_length(pages.len(), nonzero(bytes), words.len() / INSTRUCTION_WORDS);
+    let steps = parts.words.len() / INSTRUCTION_WORDS;
+    let long = text_length(parts.pages.len(), nonzero(parts.bytes), steps);
     if text.len() < long {
-        return Writing::TooLong(long);
+        return Err(WriteError::TooLong(long));
     }
-    lay(state, pages, bytes, words, text);
-    Writing::Done(long)
+    lay(parts, text);
+    Ok(long)
 }
 
-// Writes a run's sheet to the front of the text. A run that is refused before its first step, and one whose sheet does not fit, change
-// nothing.
-pub fn write(state: &[u64], pages: &[u64], bytes: &[u8], words: &[u64], text: &mut [u8]) -> Writing
-    ensures { record { answer = result; text = text.new } ≡ writes (record { state = state.now; pages = pages.now; bytes = bytes.now; words = words.now }) text.old }
+// Writes a run's sheet to the front of the text, and gives its length. A run that is refused before its first step, and one whose sheet
+// does not fit, change nothing.
+pub fn write(parts: Parts<'_>, text: &mut [u8]) -> Result<usize, WriteError>
+    ensures { record { answer = result; text = text.new } ≡ writes (buffers_in parts.entry) text.old }
 {
-    match replay::check(pages, bytes.len(), good_state(state), words.len()) {
-        Tested::Failed(refusal) => Writing::Refused(refusal),
-        Tested::Passed => print(state, pages, bytes, words, text),
-    }
+    let good = good_state(parts.state);
+    replay::check(parts.pages, parts.bytes.len(), good, parts.words.len())?;
+    print(parts, text)
 }

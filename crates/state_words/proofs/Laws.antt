@@ -11,10 +11,10 @@ use Rattle.processor.specs.State.{in_range}
 use Rattle.processor.specs.Layout.{fields, state_of}
 use Rattle.state_words.specs.Formed.{formed, good_state}
 use Rattle.processor.specs.declared.state.State.{State}
-use Rattle.state_words.specs.declared.Formed.TheVariants.{Whole, NoState}
+use Rattle.std.specs.Prelude.{Some, None}
 
 module _ (words : List ℕ) where
-  pub formed_whole : (s : State) → formed words ≡ Whole s → (length words ≡ fields) × (s ≡ state_of words)
+  pub formed_whole : (s : State) → formed words ≡ Some s → (length words ≡ fields) × (s ≡ state_of words)
   unfolding formed
   formed_whole s e = go (eqb (length words) fields) refl
     where
@@ -22,7 +22,7 @@ module _ (words : List ℕ) where
       go true h = let same = rw h at e in (eqb-true (length words) fields h, cc)
       go false h = let other = rw h at e in let z : ◌≡◌ {A = ℕ} 0 1 = cc in absurd (omega arith)
 
-  pub good_none : formed words ≡ NoState → good_state words ≡ false
+  pub good_none : formed words ≡ None → good_state words ≡ false
   unfolding good_state
   good_none e = rw e
 

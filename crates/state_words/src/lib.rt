@@ -4,43 +4,35 @@
 ghost use Rattle.std.specs.Prelude.{◌≡◌};
 ghost use Rattle.state_words.specs.Formed.{formed as formed_of, good_state};
 
-use processor::{FIELDS, State};
+use processor::State;
 
-// What words make.
-#[derive(Clone, Copy)]
-pub enum Formed {
-    Whole(State),
-    // Not as many as a state has fields.
-    NoState,
-}
-
-// The state whose fields are these words, in the order of the rules.
-pub fn state_of(words: &[u64]) -> Formed
+// The state whose fields are these words, in the order of the rules; none where they are not as many. A function and no `TryFrom`, which
+// could stand only in the crate of `State`.
+#[tactic(auto, unfolding(crate::specs::Formed::formed, processor::specs::Layout::state_of))]
+pub fn state_of(words: &[u64]) -> Option<State>
     ensures { result ≡ formed_of words.now }
 {
-    if words.len() != FIELDS {
-        return Formed::NoState;
-    }
-    Formed::Whole(State {
-        mode: words[0],
-        cpl: words[1],
-        cet: words[2],
-        ucet: words[3],
-        scet: words[4],
-        ip: words[5],
-        sp: words[6],
-        ssp: words[7],
-        flags: words[8],
-        limit: words[9],
+    let &[mode, cpl, cet, ucet, scet, ip, sp, ssp, flags, limit] = words else {
+        return None;
+    };
+    Some(State {
+        mode,
+        cpl,
+        cet,
+        ucet,
+        scet,
+        ip,
+        sp,
+        ssp,
+        flags,
+        limit,
     })
 }
 
 // Whether words make a state whose fields are all in their ranges.
+#[tactic(auto, unfolding(crate::specs::Formed::good_state))]
 pub fn good_state(words: &[u64]) -> bool
     ensures { result ≡ good_state words.now }
 {
-    match state_of(words) {
-        Formed::Whole(state) => state.in_range(),
-        Formed::NoState => false,
-    }
+    state_of(words).is_some_and(|state| state.in_range())
 }

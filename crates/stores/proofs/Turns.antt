@@ -1,173 +1,118 @@
--- The two loops: what trying the stores and making them give from a slot on. Each loop's invariant is a record, with a law for its start, its
--- turns and its ends. Assumes nothing.
-use Prim.Native.Nat.{ℕ, zero, suc, ◌+◌, ◌<◌, ◌≤◌}
-use mathlib.Core.Path.{◌≡◌, refl, sym, ◌∙◌, ap}
-use mathlib.Core.Bool.{Bool, true, false}
-use mathlib.Core.List.{List, [], ◌∷◌}
-use native.Mathlib.Numerals.{add-one}
-use native.Mathlib.Omega.{arith}
-use lib.ListN.{length, get_or, set, drop, replicate, length-set, get_or-replicate, drop_of_length-le}
-use lib.Seq.{get_or-set_same, get_or-set_other}
-use lib.Dec.{eqb}
-use borrow.Author.Tests.{eqb-true, eqb-false}
+-- The loops over the stores of a list: where each lies, and what they leave. Assumes nothing.
+use Rattle.std.proofs.Common.{ℕ, zero, suc, ◌+◌, ◌<◌, ◌≤◌, ◌≡◌, refl, false, List, [], ◌∷◌, length, get_or, drop, Option, Some, None, Result, Ok, Err, arith, add-one, drop-cons, drop_of_length-le}
+use Rattle.addresses.specs.declared.address.Width.TheVariants.{Bits32}
+use Rattle.numbers.specs.declared.size.Size.TheVariants.{Four}
 use Rattle.pages.specs.Pages.{Lookup}
-use Rattle.accesses.specs.Access.{lookup_of, probe, written}
-use Rattle.memory.specs.OnePage.{located}
+use Rattle.accesses.specs.Access.{probe, written}
 use Rattle.accesses.specs.declared.access.Access.{Access}
+use Rattle.accesses.specs.declared.access.Kind.TheVariants.{UserShadow}
 use Rattle.accesses.specs.declared.reach.Failure.{Failure}
-use Rattle.accesses.specs.declared.reach.Reach.{Reach}
-use Rattle.accesses.specs.declared.reach.Reach.TheVariants.{Ready as Reached, Blocked}
-use Rattle.memory.specs.declared.one_page.Located.TheVariants.{Within, Across, Blocked as Unreached}
-use Rattle.memory.proofs.Laws.{told, lookup_kept, length_written}
+use Rattle.memory.specs.OnePage.{located}
+use Rattle.memory.specs.Blocked.{against}
+use Rattle.memory.specs.declared.blocked.Blocked.{Blocked}
+use Rattle.memory.proofs.Laws.{told}
 use Rattle.stores.specs.Stores.{then_try, try_all, written_all}
-use Rattle.stores.specs.Places.{no_place, Lies, Ready}
-use Rattle.stores.specs.declared.Slot.{Slot}
-use Rattle.stores.specs.declared.Slot.TheVariants.{End, Store}
-use Rattle.stores.specs.declared.Stored.{Stored}
-use Rattle.stores.specs.declared.Stored.TheVariants.{AllStored, NoneStored}
+use Rattle.stores.specs.Places.{and_place, located_all}
+use Rattle.stores.specs.declared.Store.{Store}
 
--- ---- a slot, and those after it
+-- stands past the end of a list of stores
+abbrev pub no_store : Store
+no_store = record { access = record { first = 0; kind = UserShadow; store = false; user = false; size = Four; width = Bits32; canonical = false }; value = 0 }
 
-abbrev try_first : Lookup → Slot → Stored → Stored
-try_first look End next = AllStored
-try_first look (Store a v) next = then_try a (probe look a) next
+-- ---- where the stores lie
 
-abbrev write_first : Lookup → Slot → (List ℕ → List ℕ) → List ℕ → List ℕ
-write_first look End next bytes = bytes
-write_first look (Store a v) next bytes = next (written look a v bytes)
+-- where a store lies, if it can be done
+abbrev place_of : Lookup → Store → Result (Option ℕ) Blocked
+place_of look s = against s.access (located look s.access)
 
-try_from : (look : Lookup) (slots : List Slot) (i : ℕ) → try_all look (drop i slots) ≡ try_first look (get_or slots i End) (try_all look (drop (suc i) slots))
-unfolding try_all
-try_from look [] zero = refl
-try_from look [] (suc i) = refl
-try_from look (End ∷ rest) zero = refl
-try_from look (Store a v ∷ rest) zero = refl
-try_from look (slot ∷ rest) (suc i) = try_from look rest i
+-- each store of the first k lies where it was noted
+pub record Noted (look : Lookup) (stores : List Store) (places : List (Option ℕ)) (k : ℕ) : Type 0 where
+  pub room : length places ≡ length stores
+  pub each : (i : ℕ) → i < k → place_of look (get_or stores i no_store) ≡ Ok (get_or places i None)
 
-write_from : (look : Lookup) (slots : List Slot) (i : ℕ) (bytes : List ℕ)
-    → written_all look (drop i slots) bytes ≡ write_first look (get_or slots i End) (written_all look (drop (suc i) slots)) bytes
-unfolding written_all
-write_from look [] zero bytes = refl
-write_from look [] (suc i) bytes = refl
-write_from look (End ∷ rest) zero bytes = refl
-write_from look (Store a v ∷ rest) zero bytes = refl
-write_from look (slot ∷ rest) (suc i) bytes = write_from look rest i bytes
+-- those after the first
+rest_noted : {look : Lookup} {k : ℕ} {s : Store} {rest : List Store} {place : Option ℕ} {places : List (Option ℕ)} → Noted look (s ∷ rest) (place ∷ places) (suc k) → Noted look rest places k
+rest_noted noted = record { room = omega (arith, noted.room); each = λ i before. noted.each (suc i) (omega arith) }
 
--- ---- places noted
+-- all were noted
+pub all_noted : (look : Lookup) (stores : List Store) (places : List (Option ℕ)) (k : ℕ) → length stores ≤ k → Noted look stores places k → Ok places ≡ located_all look stores
+unfolding located_all
+all_noted look [] [] k all noted = refl
+all_noted look [] (place ∷ places) k all noted = absurd (omega (arith, noted.room))
+all_noted look (s ∷ rest) [] k all noted = absurd (omega (arith, noted.room))
+all_noted look (s ∷ rest) (place ∷ places) zero all noted = absurd (omega arith)
+all_noted look (s ∷ rest) (place ∷ places) (suc k) all noted = rw (noted.each 0 (omega arith), ← all_noted look rest places k (omega arith) (rest_noted noted))
 
--- how many slots a list has
-abbrev pub slot_count : ℕ
-slot_count = 8
+-- one cannot be done, and all before it were noted
+pub stopped : (look : Lookup) (stores : List Store) (places : List (Option ℕ)) (k : ℕ) (blocked : Blocked) → k < length stores → Noted look stores places k
+    → place_of look (get_or stores k no_store) ≡ Err blocked → Err blocked ≡ located_all look stores
+unfolding located_all
+stopped look [] places k blocked among noted here = absurd (omega arith)
+stopped look (s ∷ rest) [] k blocked among noted here = absurd (omega (arith, noted.room))
+stopped look (s ∷ rest) (place ∷ places) zero blocked among noted here = rw here
+stopped look (s ∷ rest) (place ∷ places) (suc k) blocked among noted here =
+    rw (noted.each 0 (omega arith), ← stopped look rest places k blocked (omega arith) (rest_noted noted) here)
 
--- every place that was noted is the one at which the slot's store lies
-pub record Noted (look : Lookup) (slots : List Slot) (places : List ℕ) : Type 0 where
-  pub each : (i v : ℕ) (a : Access) → i < length places → get_or slots i End ≡ Store a v → Lies look a (get_or places i 0)
+-- ---- what the places tell
 
-note : (look : Lookup) (slots : List Slot) (places : List ℕ) (i : ℕ) (a : Access) (v place : ℕ) → get_or slots i End ≡ Store a v → located look a ≡ Within place
-    → Noted look slots places → Noted look slots (set places i place)
-note look slots places i a v place here lies noted = record { each = λ j u b among there. go j u b (rw length-set at among) there (eqb j i) refl }
+-- whether stores can be done, by where they lie
+abbrev pub forget : {A : Type 0} → Result A Blocked → Result (Unit {0}) Blocked
+forget (Ok found) = Ok tt
+forget (Err blocked) = Err blocked
+
+tried_one : (look : Lookup) (a : Access) → against a (probe look a) ≡ forget (against a (located look a))
+tried_one look a = go (located look a) refl
   where
-    go : (j u : ℕ) (b : Access) → j < length places → get_or slots j End ≡ Store b u → (t : Bool) → eqb j i ≡ t → Lies look b (get_or (set places i place) j 0)
-    go j u b among there true same known =
-        let e : j ≡ i = eqb-true j i same in
-        cc (get_or-set_same places i place 0 (omega arith))
-    go j u b among there false other known =
-        let kept = get_or-set_other places i j place 0 (eqb-false j i other) in
-        rw kept (noted.each j u b among there (λ q. known (kept ∙ q)))
+    go : (found : Result (Option ℕ) Failure) → found ≡ located look a → against a (probe look a) ≡ forget (against a found)
+    go (Ok (Some place)) e = rw (told look a (Ok (Some place)) e).ready
+    go (Ok None) e = rw (told look a (Ok None) e)
+    go (Err failure) e = rw (told look a (Err failure) e)
 
--- ---- trying them
+pub tried : (look : Lookup) (stores : List Store) → try_all look stores ≡ forget (located_all look stores)
+unfolding try_all located_all
+tried look [] = refl
+tried look (s ∷ rest) = rw (tried_one look s.access, tried look rest) (go (place_of look s) (located_all look rest))
+  where
+    go : (here : Result (Option ℕ) Blocked) (there : Result (List (Option ℕ)) Blocked) → then_try (forget here) (forget there) ≡ forget (and_place here there)
+    go (Ok place) (Ok places) = refl
+    go (Ok place) (Err blocked) = refl
+    go (Err blocked) there = refl
 
--- what trying all finds is what it finds from a slot on, and every place that was noted is right
-pub record Trying (look : Lookup) (slots : List Slot) (places : List ℕ) (i : ℕ) : Type 0 where
-  pub rest : try_all look slots ≡ try_all look (drop i slots)
-  pub noted : Noted look slots places
-  pub room : length places ≡ slot_count
+-- the first store's place, and those of the rest
+record Headed (here : Result (Option ℕ) Blocked) (there : Result (List (Option ℕ)) Blocked) (places : List (Option ℕ)) : Type 0 where
+  place : Option ℕ
+  after : List (Option ℕ)
+  here_is : here ≡ Ok place
+  there_is : there ≡ Ok after
+  places_are : places ≡ place ∷ after
 
--- nothing is noted at first
-pub trying_starts : (look : Lookup) (slots : List Slot) → Trying look slots (replicate slot_count no_place) 0
-trying_starts look slots = record {
-  rest = refl;
-  noted = record { each = λ i v a among there known. absurd (known (get_or-replicate slot_count i no_place 0 among)) };
-  room = refl;
-}
+headed : (here : Result (Option ℕ) Blocked) (there : Result (List (Option ℕ)) Blocked) (places : List (Option ℕ)) → and_place here there ≡ Ok places → Headed here there places
+headed (Ok place) (Ok after) places e = record { place = place; after = after; here_is = refl; there_is = refl; places_are = cc }
+headed (Ok place) (Err blocked) places e = let z : ◌≡◌ {A = ℕ} 0 1 = cc in absurd (omega arith)
+headed (Err blocked) there places e = let z : ◌≡◌ {A = ℕ} 0 1 = cc in absurd (omega arith)
 
-module _ {look : Lookup} {slots : List Slot} {places : List ℕ} {i : ℕ} (trying : Trying look slots places i) where
-  pub tried_to_end : get_or slots i End ≡ End → AllStored ≡ try_all look slots
-  tried_to_end none = sym (trying.rest ∙ try_from look slots i ∙ rw none)
+-- a store that lies somewhere can be done
+can_be_done : (a : Access) (found : Result (Option ℕ) Failure) (place : Option ℕ) → against a found ≡ Ok place → found ≡ Ok place
+can_be_done a (Ok found) place e = cc
+can_be_done a (Err failure) place e = let z : ◌≡◌ {A = ℕ} 0 1 = cc in absurd (omega arith)
 
-  pub tried_all : length slots ≤ i → AllStored ≡ try_all look slots
-  unfolding try_all
-  tried_all past = sym (trying.rest ∙ rw (drop_of_length-le slots past))
+-- where the k-th store lies
+pub its_place : (look : Lookup) (stores : List Store) (places : List (Option ℕ)) (k : ℕ) → k < length stores → located_all look stores ≡ Ok places
+    → located look (get_or stores k no_store).access ≡ Ok (get_or places k None)
+unfolding located_all
+its_place look [] places k among e = absurd (omega arith)
+its_place look (s ∷ rest) places zero among e = let h = headed _ _ places e in rw h.places_are (can_be_done s.access (located look s.access) h.place h.here_is)
+its_place look (s ∷ rest) places (suc k) among e = let h = headed _ _ places e in rw h.places_are (its_place look rest h.after k (omega arith) h.there_is)
 
-  module _ {a : Access} {v : ℕ} (here : get_or slots i End ≡ Store a v) where
-    pub tried_blocked : {failure : Failure} → Unreached failure ≡ located look a → NoneStored a failure ≡ try_all look slots
-    tried_blocked {failure} e = sym (trying.rest ∙ try_from look slots i ∙ rw (here, told look a (Unreached failure) e))
+-- ---- what the stores leave
 
-    next : probe look a ≡ Reached → try_all look slots ≡ try_all look (drop (i + 1) slots)
-    next e = trying.rest ∙ try_from look slots i ∙ rw (here, e, add-one i)
+-- those from the k-th on
+pub write_from : (look : Lookup) (stores : List Store) (k : ℕ) (bytes : List ℕ) → k < length stores
+    → written_all look (drop k stores) bytes ≡ written_all look (drop (k + 1) stores) (written look (get_or stores k no_store).access (get_or stores k no_store).value bytes)
+unfolding written_all
+write_from look stores k bytes among = rw (drop-cons stores k no_store among, add-one k)
 
-    pub tried_within : {place : ℕ} {after : List ℕ} → Within place ≡ located look a → after ≡ set places i place → Trying look slots after (i + 1)
-    tried_within {place} e set_there = record {
-      rest = next (told look a (Within place) e).ready;
-      noted = rw set_there (note look slots places i a v place here (sym e) trying.noted);
-      room = rw (set_there, length-set) trying.room;
-    }
-
-    pub tried_across : {after : List ℕ} → Across ≡ located look a → after ≡ places → Trying look slots after (i + 1)
-    tried_across e same = record { rest = next (told look a Across e); noted = rw same trying.noted; room = rw same trying.room }
-
--- ---- making them
-
--- All can be made, and the bytes that they leave are those that they leave from a slot on; no byte was added or lost, so that addresses lead where
--- they led at first.
-pub record Making (pages lent : List ℕ) (slots : List Slot) (places : List ℕ) (bytes : List ℕ) (i : ℕ) : Type 0 where
-  pub rest : written_all (lookup_of pages lent) slots lent ≡ written_all (lookup_of pages lent) (drop i slots) bytes
-  pub all : AllStored ≡ try_all (lookup_of pages lent) slots
-  pub can : try_all (lookup_of pages lent) (drop i slots) ≡ AllStored
-  pub noted : Noted (lookup_of pages lent) slots places
-  pub room : length places ≡ slot_count
-  pub kept : length bytes ≡ length lent
-
--- once all were tried
-pub making_starts : {pages lent : List ℕ} {slots : List Slot} {places : List ℕ} {i : ℕ} → Trying (lookup_of pages lent) slots places i
-    → AllStored ≡ try_all (lookup_of pages lent) slots → Making pages lent slots places lent 0
-making_starts trying all = record { rest = refl; all = all; can = sym all; noted = trying.noted; room = trying.room; kept = refl }
-
-module _ {pages lent : List ℕ} {slots : List Slot} {places bytes : List ℕ} {i : ℕ} (making : Making pages lent slots places bytes i) where
-  pub made_to_end : get_or slots i End ≡ End → bytes ≡ written_all (lookup_of pages lent) slots lent
-  made_to_end none = sym (making.rest ∙ write_from (lookup_of pages lent) slots i bytes ∙ rw none)
-
-  pub made_all : length slots ≤ i → bytes ≡ written_all (lookup_of pages lent) slots lent
-  unfolding written_all
-  made_all past = sym (making.rest ∙ rw (drop_of_length-le slots past))
-
-  module _ {a : Access} {v : ℕ} (here : get_or slots i End ≡ Store a v) where
-    -- what trying finds at a store
-    at_store : then_try a (probe (lookup_of pages lent) a) (try_all (lookup_of pages lent) (drop (suc i) slots)) ≡ AllStored
-    at_store =
-        ap (λ (slot : Slot). try_first (lookup_of pages lent) slot (try_all (lookup_of pages lent) (drop (suc i) slots))) (sym here)
-        ∙ sym (try_from (lookup_of pages lent) slots i)
-        ∙ making.can
-
-    both : (probe (lookup_of pages lent) a ≡ Reached) × (try_all (lookup_of pages lent) (drop (suc i) slots) ≡ AllStored)
-    both = go (probe (lookup_of pages lent) a) at_store
-      where
-        go : (r : Reach) → then_try a r (try_all (lookup_of pages lent) (drop (suc i) slots)) ≡ AllStored → (r ≡ Reached) × (try_all (lookup_of pages lent) (drop (suc i) slots) ≡ AllStored)
-        go Reached e = (refl, e)
-        go (Blocked failure) e = let z : ◌≡◌ {A = ℕ} 0 1 = cc in absurd (omega arith)
-
-    pub this_ready : i < slot_count → Ready (lookup_of pages bytes) a (get_or places i 0)
-    this_ready among = rw (lookup_kept pages lent bytes making.kept) (record { can = both.0; lies = making.noted.each i v a (rw making.room among) here })
-
-    pub made : {after : List ℕ} → after ≡ written (lookup_of pages bytes) a v bytes → Making pages lent slots places after (i + 1)
-    made {after} e =
-        let led = lookup_kept pages lent bytes making.kept in
-        let is : after ≡ written (lookup_of pages lent) a v bytes = rw led at e in
-        record {
-          rest = making.rest ∙ write_from (lookup_of pages lent) slots i bytes ∙ rw (here, add-one i, is);
-          all = making.all;
-          can = rw (add-one i) both.1;
-          noted = making.noted;
-          room = making.room;
-          kept = rw is (length_written (lookup_of pages lent) a v bytes ∙ making.kept);
-        }
+-- past the last
+pub write_none : (look : Lookup) (stores : List Store) (k : ℕ) (bytes : List ℕ) → length stores ≤ k → written_all look (drop k stores) bytes ≡ bytes
+unfolding written_all
+write_none look stores k bytes past = rw (drop_of_length-le stores past)

@@ -1,21 +1,18 @@
--- Where a store of a list lies, as the code notes it, for the contract of a private function. Assumes nothing.
-use Rattle.std.specs.Prelude.{ℕ, ◌-◌, ◌^◌, ◌≡◌}
+-- Where the stores of a list lie, as the code notes it, for the contracts of private functions. Assumes nothing.
+use Rattle.std.specs.Prelude.{ℕ, Option, Result, Ok, Err, List, [], ◌∷◌}
 use Rattle.pages.specs.Pages.{Lookup}
-use Rattle.accesses.specs.Access.{probe}
 use Rattle.memory.specs.OnePage.{located}
-use Rattle.accesses.specs.declared.access.Access.{Access}
-use Rattle.accesses.specs.declared.reach.Reach.TheVariants.{Ready as Reached}
-use Rattle.memory.specs.declared.one_page.Located.TheVariants.{Within}
+use Rattle.memory.specs.Blocked.{against}
+use Rattle.memory.specs.declared.blocked.Blocked.{Blocked}
+use Rattle.stores.specs.declared.Store.{Store}
 
--- stands where no place was noted
-abbrev pub no_place : ℕ
-no_place = 2 ^ 64 - 1
+-- a place, and those after it, unless one of them cannot be told
+abbrev pub and_place : Result (Option ℕ) Blocked → Result (List (Option ℕ)) Blocked → Result (List (Option ℕ)) Blocked
+and_place (Ok place) (Ok places) = Ok (place ∷ places)
+and_place (Ok place) (Err blocked) = Err blocked
+and_place (Err blocked) places = Err blocked
 
--- a place that was noted for a store is the one at which it lies
-abbrev pub Lies : Lookup → Access → ℕ → Type 0
-Lies look a place = (place ≡ no_place → ⊥) → located look a ≡ Within place
-
--- a store that can be done, with what was noted for it
-pub record Ready (look : Lookup) (a : Access) (place : ℕ) : Type 0 where
-  pub can : probe look a ≡ Reached
-  pub lies : Lies look a place
+-- where each store of a list lies, if all can be done, else the first that cannot
+unfoldable pub located_all : Lookup → List Store → Result (List (Option ℕ)) Blocked
+located_all look [] = Ok []
+located_all look (s ∷ rest) = and_place (against s.access (located look s.access)) (located_all look rest)

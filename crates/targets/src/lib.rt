@@ -8,6 +8,7 @@ use memory::Size;
 use processor::State;
 
 // The displacement as a signed number: the low 32 bits of the operand in two's complement.
+#[tactic(auto, unfolding(crate::specs::Targets::displacement))]
 fn displacement(a: u64) -> i64
     ensures { result ≡ displacement_of a }
 {
@@ -23,14 +24,15 @@ fn displacement(a: u64) -> i64
 fn moved(state: State, from: u64, by: i64) -> u64
     ensures { result ≡ moved_of state from by }
 {
-    if by >= 0 {
-        state.plus(from, by as u64)
+    if by < 0 {
+        state.minus(from, by.unsigned_abs())
     } else {
-        state.minus(from, (-1 - by) as u64 + 1)
+        state.plus(from, by.unsigned_abs())
     }
 }
 
 // The target of a relative call.
+#[tactic(auto, unfolding(crate::specs::Targets::relative))]
 pub fn relative(state: State, a: u64, span: u64) -> u64
     ensures { result ≡ relative_of state a span }
 {
@@ -38,6 +40,7 @@ pub fn relative(state: State, a: u64, span: u64) -> u64
 }
 
 // Whether a call or a return may go to the target.
+#[tactic(auto, unfolding(crate::specs::Targets::in_code))]
 pub fn in_code(state: State, target: u64) -> bool
     ensures { result ≡ in_code state target }
 {
@@ -60,16 +63,15 @@ pub fn pushed(state: State) -> Size
 }
 
 // Whether 4 bytes from here on would run past the end of a 32-bit stack; never in mode 2.
+#[tactic(auto, unfolding(crate::specs::Targets::runs_past))]
 pub fn runs_past(state: State, first: u64) -> bool
     ensures { result ≡ runs_past state first }
 {
-    if state.is_long() {
-        return false;
-    }
-    first > 0xffff_fffc
+    !state.is_long() && first > 0xffff_fffc
 }
 
 // Whether the displacement of a relative call is other than 0: the low 32 bits of A are not 0.
+#[tactic(auto, unfolding(crate::specs::Targets::displaced))]
 pub fn displaced(a: u64) -> bool
     ensures { result ≡ displaced_of a }
 {

@@ -1,8 +1,6 @@
 -- Numbers as fields of a text, each behind a tab, lines of any name, and a text in lines (docs/RULES.md, "Run sheets"). Assumes nothing.
-use Rattle.std.specs.Prelude.{ℕ, zero, suc, Bool, true, false, cond, ◌&&◌, List, [], ◌∷◌, ◌++◌, take, drop, replicate, eqb}
+use Rattle.std.specs.Prelude.{ℕ, zero, suc, Bool, true, false, cond, ◌&&◌, List, [], ◌∷◌, ◌++◌, take, drop, replicate, eqb, Option, Some, None}
 use Rattle.texts.specs.Digits.{tab, line_feed, letter_x, digits, number, is_digit, value_of}
-use Rattle.texts.specs.declared.digits.Numeral.{Numeral}
-use Rattle.texts.specs.declared.digits.Numeral.TheVariants.{Number, NoNumber}
 
 -- ---- writing
 
@@ -61,9 +59,9 @@ begins [] text = true
 begins (mark ∷ marks) [] = false
 begins (mark ∷ marks) (c ∷ cs) = fits_mark mark c && begins marks cs
 
--- the number with which a text begins
-unfoldable pub numeral : List ℕ → Numeral
-numeral u = cond (begins number_form u) (Number (value_of (take digits (drop 1 u)))) NoNumber
+-- the number with which a text begins, if it begins with one
+unfoldable pub numeral : List ℕ → Option ℕ
+numeral u = cond (begins number_form u) (Some (value_of (take digits (drop 1 u)))) None
 
 -- the n numbers whose tabs begin here
 unfoldable pub values_in : ℕ → List ℕ → List ℕ

@@ -4,5 +4,5 @@
 mod digits;
 mod put;
 
-pub use digits::{Numeral, is_digit, number};
+pub use digits::{is_digit, number};
 pub use put::{FIELD, put_line};

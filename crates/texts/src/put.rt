@@ -6,7 +6,7 @@ ghost use Rattle.texts.specs.Digits.{hex, number, tab};
 ghost use Rattle.texts.specs.Fields.{fields as fields_of, line_of};
 
 use crate::digits::{DIGITS, digit};
-use numbers::{copy_bytes, has_room};
+use numbers::{copy, has_room};
 
 // How many bytes a number has with the tab before it.
 pub const FIELD: usize = 18;
@@ -16,12 +16,10 @@ fn put_digits(v: u64, text: &mut [u8], at: usize)
     requires { at + 16 ≤ length text.old }
     ensures { text.new ≡ laid text.old at (hex 16 v) }
 {
-    let mut left = DIGITS;
-    let mut v = v;
-    while 0 < left {
-        left -= 1;
-        text[at + left] = digit(v % 16);
-        v /= 16;
+    let mut rest = v;
+    for place in (0..DIGITS).rev() {
+        text[at + place] = digit(rest % 16);
+        rest /= 16;
     }
 }
 
@@ -30,7 +28,7 @@ fn put_field(v: u64, text: &mut [u8], at: usize)
     requires { at + 18 ≤ length text.old }
     ensures { text.new ≡ laid text.old at (tab ∷ number v) }
 {
-    copy_bytes(b"\tx", text, at);
+    copy(b"\tx", text, at);
     put_digits(v, text, at + 2);
 }
 
@@ -38,14 +36,13 @@ fn put_fields(values: &[u64], text: &mut [u8], at: usize)
     requires { at + length (fields_of values.now) ≤ length text.old }
     ensures { text.new ≡ laid text.old at (fields_of values.now) }
 {
-    let mut i = 0;
-    while i < values.len() {
-        put_field(values[i], text, at + FIELD * i);
-        i += 1;
+    for (i, &value) in values.iter().enumerate() {
+        put_field(value, text, at + FIELD * i);
     }
 }
 
 // Writes a line of any name with these numbers from a place on, or nothing where it does not fit; and says which.
+#[tactic(auto, unfolding(numbers::specs::Numbers::inside), using(crate::proofs::Fields::line_long, crate::proofs::Fields::fields_length, numbers::proofs::Laws::laid_unless))]
 pub fn put_line(name: &[u8], values: &[u64], text: &mut [u8], at: usize) -> bool
     ensures told { result ≡ inside (length text.old) at (length (line_of name.now values.now)) }
     ensures put { text.new ≡ laid_if text.old at (line_of name.now values.now) }
@@ -58,8 +55,8 @@ pub fn put_line(name: &[u8], values: &[u64], text: &mut [u8], at: usize) -> bool
     if !has_room(text.len(), at, ended + 1) {
         return false;
     }
-    copy_bytes(name, text, at);
+    copy(name, text, at);
     put_fields(values, text, at + name.len());
-    copy_bytes(b"\n", text, at + ended);
+    copy(b"\n", text, at + ended);
     true
 }

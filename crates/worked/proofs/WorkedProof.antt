@@ -1,8 +1,8 @@
 -- The worked cases, by computation: every definition on the way is opened, and both sides come to the same lists. Assumes nothing.
-use mathlib.Core.Path.{refl}
+use Rattle.std.proofs.Common.{refl}
 use Rattle.accesses.specs.Access.{scan, number, write, lookup_of, canonical_bytes, listed_bytes, probe, value, written}
 use Rattle.addresses.specs.Address.{wrapped, plus, minus, canonical}
-use Rattle.pages.specs.Pages.{page_of, kind_of, wrong_length, bad_kind, bad_address, on_page, any_entry, repeated, listing, in_page, spot_from, spot}
+use Rattle.pages.specs.Pages.{page_of, kind_of, wrong_length, bad_kind, bad_address, on_page, repeated, listing, in_page, spot_from, spot}
 use Rattle.processor.specs.Prog.{◌>>=◌, interp, operate}
 use Rattle.processor.specs.Layout.{state_of}
 use Rattle.processor.specs.State.{plus as plus_of, minus as minus_of, next, enabled, usable, permitted, fixed_fit, cet_fits, pointers_fit, in_range}
@@ -24,7 +24,7 @@ use Rattle.worked.specs.WorkedReturns.{WorkedReturns}
 
 all_worked : Worked × WorkedReturns
 unfolding scan canonical_bytes listed_bytes probe number value write written wrapped plus minus canonical
-    page_of kind_of wrong_length bad_kind bad_address on_page any_entry repeated listing in_page spot_from spot lookup_of
+    page_of kind_of wrong_length bad_kind bad_address on_page repeated listing in_page spot_from spot lookup_of
     ◌>>=◌ interp operate plus_of minus_of next enabled usable permitted state_of fixed_fit cet_fits pointers_fit in_range
     incssp wrss recognised wruss home good_token restored_flags rstorssp pop_hole new_top saved_token leave_token saveprevssp
     displacement relative displaced in_code runs_past pushes_frame call pop_frame new_ssp ret

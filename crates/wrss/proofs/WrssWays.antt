@@ -1,15 +1,10 @@
 -- The ways through WRSS, each by the tests and the store on it. Assumes nothing.
-use Prim.Native.Nat.{ℕ, ◌%◌}
-use mathlib.Core.Path.{◌≡◌, ◌∙◌}
-use mathlib.Core.Bool.{Bool, true, false}
-use mathlib.Core.List.{List}
-use lib.Dec.{eqb}
-use borrow.Author.Tests.{eq-eqb, ne_eqb}
+use Rattle.std.proofs.Common.{ℕ, ◌%◌, ◌≡◌, ◌∙◌, Bool, true, false, List, Ok, Err, eqb, eq-eqb, ne_eqb}
 use Rattle.numbers.specs.Numbers.{byte_count}
 use Rattle.accesses.specs.Access.{probe, written}
 use Rattle.pages.specs.Pages.{Lookup}
-use Rattle.accesses.specs.declared.reach.Failure.{Failure}
-use Rattle.accesses.specs.declared.reach.Reach.TheVariants.{Ready, Blocked}
+use Rattle.memory.specs.Blocked.{against}
+use Rattle.memory.specs.declared.blocked.Blocked.{Blocked}
 use Rattle.numbers.specs.declared.size.Size.{Size}
 use Rattle.answers.specs.Answer.{ud, gp}
 use Rattle.processor.specs.State.{usable, next}
@@ -39,17 +34,17 @@ module _ (look : Lookup) (bytes : List ℕ) (size : Size) (permitted : Bool) (a 
           (passed look bytes (usable s) ud _ u ∙ passed look bytes permitted ud _ p ∙ halted look bytes (eqb (a % byte_count size) 0) gp _ (ne_eqb _ _ e))
 
       module _ (aligned : a % byte_count size ≡ 0) where
-        pub blocked : (failure : Failure) → probe look (shadow s a size true) ≡ Blocked failure
-            → operate look (wrss size permitted a b span s) s bytes ≡ step_of (faulted s (blame (shadow s a size true) failure)) bytes
+        pub blocked : (why : Blocked) → against (shadow s a size true) (probe look (shadow s a size true)) ≡ Err why
+            → operate look (wrss size permitted a b span s) s bytes ≡ step_of (faulted s (blame why.access why.failure)) bytes
         unfolding wrss
-        blocked failure e =
+        blocked why e =
             faults look _ s bytes _
             (passed look bytes (usable s) ud _ u
             ∙ passed look bytes permitted ud _ p
             ∙ passed look bytes (eqb (a % byte_count size) 0) gp _ (eq-eqb _ _ aligned)
-            ∙ not_stored look bytes (shadow s a size true) b _ failure e)
+            ∙ not_stored look bytes (shadow s a size true) b _ why e)
 
-        pub wrote : probe look (shadow s a size true) ≡ Ready
+        pub wrote : against (shadow s a size true) (probe look (shadow s a size true)) ≡ Ok tt
             → operate look (wrss size permitted a b span s) s bytes ≡ step_of (completed s (next s span)) (written look (shadow s a size true) b bytes)
         unfolding wrss interp
         wrote e =

@@ -4,11 +4,11 @@
 ghost use Rattle.std.specs.Prelude.{◌≡◌};
 ghost use Rattle.accesses.specs.Access.{lookup_of};
 ghost use Rattle.processor.specs.Prog.{operate};
-ghost use Rattle.processor.specs.Outcomes.{step_of};
+ghost use Rattle.processor.specs.Outcomes.{ended_by, step_of};
 ghost use Rattle.wrss.specs.Wrss.{wrss as wrss_of};
 
-use memory::{Reach, Size};
-use processor::{Outcome, State, Vector};
+use memory::Size;
+use processor::{Fault, State, Vector};
 
 // `permitted` is whether WR_SHSTK_EN is set for this CPL, as `State::permitted` says. The operation does not read that bit itself, so
 // that whether it is set can alter nothing else.
@@ -21,21 +21,18 @@ pub fn execute(
     a: u64,
     b: u64,
     span: u64,
-) -> Outcome
-    ensures { step_of result bytes.new ≡ operate (lookup_of pages.now bytes.old) (wrss_of size permitted a b span state) state bytes.old }
+) -> Result<State, Fault>
+    ensures { step_of (ended_by state result) bytes.new ≡ operate (lookup_of pages.now bytes.old) (wrss_of size permitted a b span state) state bytes.old }
 {
-    if !state.usable() {
-        return state.fail(processor::fault(Vector::InvalidOpcode));
-    }
-    if !permitted {
-        return state.fail(processor::fault(Vector::InvalidOpcode));
+    if !state.usable() || !permitted {
+        return Err(processor::fault(Vector::InvalidOpcode));
     }
     if a % size.bytes() != 0 {
-        return state.fail(processor::fault(Vector::Protection));
+        return Err(processor::fault(Vector::Protection));
     }
-    let access = state.shadow(a, size, true);
-    match memory::store(access, pages, bytes, b) {
-        Reach::Blocked(failure) => state.fail(processor::blame(access, failure)),
-        Reach::Ready => state.complete(state.next(span)),
-    }
+    memory::store(state.shadow(a, size, true), pages, bytes, b)?;
+    Ok(State {
+        ip: state.next(span),
+        ..state
+    })
 }

@@ -1,15 +1,10 @@
 -- The ways through WRUSS, each by the tests and the store on it. Assumes nothing.
-use Prim.Native.Nat.{ℕ, ◌%◌}
-use mathlib.Core.Path.{◌≡◌, ◌∙◌}
-use mathlib.Core.Bool.{true, false}
-use mathlib.Core.List.{List}
-use lib.Dec.{eqb}
-use borrow.Author.Tests.{eq-eqb, ne_eqb}
+use Rattle.std.proofs.Common.{ℕ, ◌%◌, ◌≡◌, ◌∙◌, true, false, List, Ok, Err, eqb, eq-eqb, ne_eqb}
 use Rattle.numbers.specs.Numbers.{byte_count}
 use Rattle.accesses.specs.Access.{probe, written}
 use Rattle.pages.specs.Pages.{Lookup}
-use Rattle.accesses.specs.declared.reach.Failure.{Failure}
-use Rattle.accesses.specs.declared.reach.Reach.TheVariants.{Ready, Blocked}
+use Rattle.memory.specs.Blocked.{against}
+use Rattle.memory.specs.declared.blocked.Blocked.{Blocked}
 use Rattle.numbers.specs.declared.size.Size.{Size}
 use Rattle.answers.specs.Answer.{ud, gp}
 use Rattle.processor.specs.State.{next}
@@ -47,11 +42,11 @@ module _ (look : Lookup) (bytes : List ℕ) (size : Size) (a b span : ℕ) (s : 
             ∙ passed look bytes (eqb s.cpl 0) gp _ (eq-eqb _ _ kernel)
             ∙ passed look bytes (eqb (a % byte_count size) 0) gp _ (eq-eqb _ _ aligned)
 
-        pub blocked : (failure : Failure) → probe look (user_store s a size) ≡ Blocked failure
-            → operate look (wruss size a b span s) s bytes ≡ step_of (faulted s (blame (user_store s a size) failure)) bytes
-        blocked failure e = faults look _ s bytes _ (tested ∙ not_stored look bytes (user_store s a size) b _ failure e)
+        pub blocked : (why : Blocked) → against (user_store s a size) (probe look (user_store s a size)) ≡ Err why
+            → operate look (wruss size a b span s) s bytes ≡ step_of (faulted s (blame why.access why.failure)) bytes
+        blocked why e = faults look _ s bytes _ (tested ∙ not_stored look bytes (user_store s a size) b _ why e)
 
-        pub wrote : probe look (user_store s a size) ≡ Ready
+        pub wrote : against (user_store s a size) (probe look (user_store s a size)) ≡ Ok tt
             → operate look (wruss size a b span s) s bytes ≡ step_of (completed s (next s span)) (written look (user_store s a size) b bytes)
         unfolding interp
         wrote e = completes look _ s bytes _ _ (tested ∙ stored look bytes (user_store s a size) b _ e)

@@ -1,7 +1,9 @@
 -- `select` meets its contract: null, the local table, or the descriptor's 8 bytes. Assumes nothing.
-use mathlib.Core.Path.{sym, ◌∙◌}
-use borrow.Author.Tests.{eq-eqb, ne_eqb}
-use Rattle.descriptors.specs.Descriptors.{selected}
+use Rattle.std.proofs.Common.{◌≡◌, ℕ, ap, eq-eqb, ne_eqb, Option, Some, None, Ok}
+use Rattle.std.specs.Option.{MatchOption, IsSomeAnd, ok_or}
+use Rattle.descriptors.specs.Descriptors.{descriptor_of, found, selected}
+use Rattle.descriptors.specs.declared.Descriptor.{Descriptor}
+use Rattle.descriptors.specs.declared.Unselected.TheVariants.{Outside}
 use Rattle.descriptors.proofs.select.Goals as goal
 
 pub returns-then-selector-eq0 : goal.returns-then-selector-eq0
@@ -12,17 +14,13 @@ pub returns-then-selector-eq1 : goal.returns-then-selector-eq1
 unfolding selected
 returns-then-selector-eq1 c = rw (ne_eqb _ _ c.if-selector-eq0.false, eq-eqb _ _ c.if-selector-eq1.true)
 
-pub returns-in-Number : goal.returns-in-Number
-unfolding selected
-returns-in-Number c =
-    rw (
-      ne_eqb _ _ c.if-selector-eq0.false,
-      ne_eqb _ _ c.if-selector-eq1.false,
-      sym c.load.ensures ∙ c.in-Number.is,
-      c.descriptor_of.ensures,
-    )
+-- what the table gave, as the code makes it an answer
+made : (o : Option ℕ) (d : Option Descriptor) → MatchOption o (d ≡ None) (λ n. IsSomeAnd d (λ v. v ≡ descriptor_of n)) → ok_or d Outside ≡ found o
+made None d e = rw e
+made (Some n) (Some d) e = ap Ok e
+made (Some n) None e = absurd e
 
-pub returns-in-Outside : goal.returns-in-Outside
+pub returns : goal.returns
 unfolding selected
-returns-in-Outside c =
-    rw (ne_eqb _ _ c.if-selector-eq0.false, ne_eqb _ _ c.if-selector-eq1.false, sym c.load.ensures ∙ c.in-Outside.is)
+returns c =
+    rw (ne_eqb _ _ c.if-selector-eq0.false, ne_eqb _ _ c.if-selector-eq1.false, ← c.load-number.ensures, c.ok_or.ensures.value) (made _ _ c.map.ensures.cases)

@@ -1,7 +1,5 @@
 -- `refuse` meets its contract: a line, and nothing of a sheet. Assumes nothing.
-use mathlib.Core.List.{[], ◌∷◌, append-nil}
-use mathlib.Core.Path.{refl, ◌∙◌}
-use native.Mathlib.Omega.{arith}
+use Rattle.std.proofs.Common.{[], ◌∷◌, refl, ◌∙◌, append-nil, arith}
 use Rattle.outcome.specs.Outcome.{refused_word, refused_line}
 use Rattle.outcome.proofs.LineLaws.{line_front}
 use Rattle.outcome.proofs.refuse.Goals as goal
@@ -9,5 +7,5 @@ use Rattle.outcome.proofs.refuse.Goals as goal
 pub returns : goal.returns
 unfolding refused_line
 returns c = λ sheet.
-    let front = line_front refused_word (c.args.refusal ∷ c.args.row ∷ []) _ _ 44 refl (omega (arith, c.requires)) c.put_line.ensures.put in
+    let front = line_front refused_word (c.args.refusal ∷ c.args.row ∷ []) _ _ 44 refl (omega arith) c.put_line.ensures.put in
     record { in_line = front.0; in_sheet = omega arith; whole_is = append-nil _ ∙ front.1 }

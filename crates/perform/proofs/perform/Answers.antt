@@ -1,29 +1,25 @@
 -- `perform` meets its contract: the form is tested, then the operation runs on the state without the permission bits. Assumes nothing.
-use mathlib.Core.Path.{sym, ◌∙◌, ap}
-use Rattle.perform.specs.Codes.{codes}
-use Rattle.perform.specs.Exec.{perform}
-use Rattle.perform.proofs.ExecLaws.{back_from, performed, built_whole, form_fits}
+use Rattle.std.proofs.Common.{sym, ◌∙◌, Ok, Err}
+use Rattle.perform.proofs.ExecLaws.{malformed, performed}
+use Rattle.perform.proofs.perform.Goals.{in_default-via-in-Ok+else-fits, in_default-via-in_default}
 use Rattle.perform.proofs.perform.Goals as goal
 
-pub returns-then-not-fits : goal.returns-then-not-fits
-unfolding perform
-returns-then-not-fits c =
-    let args = c.args in
-    rw (
-      form_fits _ args.state _ _ c.of-operation.ensures (sym c.fits.ensures ∙ c.if-not-fits.true),
-      c.refuse.ensures,
-    )
+pub returns-in_default : goal.returns-in_default
+returns-in_default c =
+    rw c.refuse.ensures (malformed _ _ _ _
+    (elim c.in_default.branch [
+      | in_default-via-in-Ok+else-fits w ↦ λ op name. cc
+      | in_default-via-in_default w ↦ λ op name. absurd (w.in_default.not-Ok op (c.try_from.ensures ∙ name))
+    ]))
 
-pub returns : goal.returns
-returns c =
-    let args = c.args in
-    rw (
-      c.unhide.ensures,
-      performed codes _ _ args.state _
-          (form_fits _ _ _ _ c.of-operation.ensures (sym c.fits.ensures ∙ c.if-not-fits.false)),
-      built_whole,
-      ← c.of-operation.ensures,
-      ← c.permitted.ensures,
-      ← c.hidden.ensures,
-    )
-    (ap (back_from _) c.dispatch-outcome.ensures)
+pub returns-in-Ok-dispatch : goal.returns-in-Ok-dispatch
+returns-in-Ok-dispatch c =
+    rw c.shown.ensures
+    (performed _ _ _ _ c.in-Ok.operation (Ok c.in-Ok-dispatch.after) _ (sym c.try_from.ensures ∙ c.in-Ok.is) (sym c.fits.ensures ∙ c.if-fits.true)
+    (rw (← c.hidden.ensures, ← c.permitted.ensures) c.in-Ok-dispatch.ensures))
+
+pub returns-in-Err : goal.returns-in-Err
+returns-in-Err c =
+    rw c.fail.ensures
+    (performed _ _ _ _ c.in-Ok.operation (Err c.in-Err.fault) _ (sym c.try_from.ensures ∙ c.in-Ok.is) (sym c.fits.ensures ∙ c.if-fits.true)
+    (rw (← c.hidden.ensures, ← c.permitted.ensures) c.in-Err.ensures))

@@ -1,8 +1,11 @@
 -- `saveprevssp::execute` meets its contract: each return cites the way through the definition that leads to it. Assumes nothing.
 use mathlib.Core.Path.{◌≡◌, sym, ◌∙◌}
 use mathlib.Core.Bool.{true, false}
+use Rattle.std.proofs.Common.{rules, Err}
 use Rattle.accesses.specs.Access.{lookup_of, load as load_at}
+use Rattle.memory.specs.Blocked.{against}
 use Rattle.numbers.specs.declared.size.Size.TheVariants.{Eight}
+use Rattle.answers.specs.Blame.{blame}
 use Rattle.processor.specs.State.{usable}
 use Rattle.processor.specs.Accesses.{shadow}
 use Rattle.saveprevssp.proofs.SaveprevsspWays.{not_usable, not_aligned, blocked, popped}
@@ -12,25 +15,27 @@ use Rattle.saveprevssp.proofs.execute.Goals as goal
 is_usable : (c : Else-not-usable) → usable c.args.state ≡ true
 is_usable c = sym c.usable.ensures ∙ c.if-not-usable.false
 
-found : (c : After-load) → load_at (lookup_of c.args.pages.now c.args.bytes.now) c.args.bytes.now (shadow c.args.state c.args.state.ssp Eight false) ≡ c.load.result
+found : (c : After-load) →
+    let access = shadow c.args.state c.args.state.ssp Eight false in
+    against access (load_at (lookup_of c.args.pages.now c.args.bytes.now) c.args.bytes.now access) ≡ c.load.result
 found c = rw (← c.shadow-access.ensures) (sym c.load.ensures)
 
 pub returns-then-not-usable : goal.returns-then-not-usable
-returns-then-not-usable c =
-    rw (c.fail.ensures, c.fault.ensures)
-    (sym (not_usable _ _ _ _ (sym c.usable.ensures ∙ c.if-not-usable.true)))
+returns-then-not-usable c = rw c.fault.ensures (sym (not_usable _ _ _ _ (sym c.usable.ensures ∙ c.if-not-usable.true)))
 
 pub returns-then-state-ne0 : goal.returns-then-state-ne0
 returns-then-state-ne0 c =
-    rw (c.fail-then-state-ne0.ensures, c.fault-then-state-ne0.ensures)
+    rw c.fault-then-state-ne0.ensures
     (sym (not_aligned _ _ _ _ (is_usable (goal.at.returns-then-state-ne0 c).Else-not-usable) c.if-state-ne0.true))
 
-pub returns-in-Blocked : goal.returns-in-Blocked
-returns-in-Blocked c =
-    rw (c.fail-in-Blocked.ensures, c.blame.ensures, c.shadow-access.ensures)
-    (sym (blocked _ _ _ _ (is_usable (goal.at.returns-in-Blocked c).Else-not-usable) c.if-state-ne0.false _ (found (goal.at.returns-in-Blocked c).After-load ∙ c.in-Blocked.is)))
+pub returns-in_err-token : goal.returns-in_err-token
+returns-in_err-token c =
+    let b = c.in_err-token.field-0.0 in
+    let failed : c.from_residual.result ≡ Err (blame b.access b.failure) = search rules in
+    rw failed
+    (sym (blocked _ _ _ _ (is_usable (goal.at.returns-in_err-token c).Else-not-usable) c.if-state-ne0.false b (found (goal.at.returns-in_err-token c).After-load ∙ c.in_err-token.was)))
 
-pub returns-in-Value : goal.returns-in-Value
-returns-in-Value c =
+pub returns : goal.returns
+returns c =
     c.leave_token.ensures
-    ∙ sym (popped _ _ _ _ (is_usable (goal.at.returns-in-Value c).Else-not-usable) c.if-state-ne0.false _ (found (goal.at.returns-in-Value c).After-load ∙ c.in-Value.is))
+    ∙ sym (popped _ _ _ _ (is_usable (goal.at.returns c).Else-not-usable) c.if-state-ne0.false _ (found (goal.at.returns c).After-load ∙ c.in_ok-token.was))

@@ -1,27 +1,29 @@
 -- `locate` meets its contract: what the first byte tells, or on two pages every byte. Assumes nothing.
-use mathlib.Core.Path.{sym, ◌∙◌}
+use Rattle.std.proofs.Common.{ap, Err}
+use Rattle.std.proofs.lemmas.Result.{err_from_is_err_and}
 use Rattle.accesses.specs.Access.{lookup_of}
-use Rattle.memory.proofs.OnePage.{quick_told, placed_located, blocked_located}
+use Rattle.memory.specs.Blocked.{against}
+use Rattle.memory.proofs.OnePage.{one_told, two_told, failure_told, placed_located, failed_located}
 use Rattle.memory.proofs.one_page.locate.Goals as goal
 
-pub returns-in-Within : goal.returns-in-Within
+pub returns-in_err-place : goal.returns-in_err-place
 unfolding lookup_of
-returns-in-Within c =
-    placed_located _ _ _ (quick_told _ _ _ _ (sym c.in-Within.is ∙ c.quick.ensures))
+returns-in_err-place c =
+    let p = err_from_is_err_and c.from_residual.result c.from_residual.ensures.1 in
+    let failed = failure_told _ _ _ c.quick.ensures c.in_err-place.was in
+    rw (p.1, p.2, failed_located _ _ _ failed.probed) (ap Err failed.named)
 
-pub returns-in-Blocked : goal.returns-in-Blocked
+pub returns-in-Some : goal.returns-in-Some
 unfolding lookup_of
-returns-in-Blocked c =
-    blocked_located _ _ _ (quick_told _ _ _ _ (sym c.in-Blocked.is ∙ c.quick.ensures))
+returns-in-Some c =
+    ap (against c.args.access) (placed_located _ _ _ (one_told _ _ _ c.quick.ensures c.in_ok-place.was c.in-Some.is))
 
-pub returns-in-Ready : goal.returns-in-Ready
+pub returns-in-Ok : goal.returns-in-Ok
 unfolding lookup_of
-returns-in-Ready c =
-    quick_told _ _ _ _ (sym c.in-Across.is ∙ c.quick.ensures) _
-    (sym c.try_each.ensures ∙ c.in-Ready.is)
+returns-in-Ok c =
+    rw (two_told _ _ _ c.quick.ensures c.in_ok-place.was c.in-None.is, ← c.try_each.ensures, c.in-Ok.is)
 
-pub returns-in-Blocked-try_each : goal.returns-in-Blocked-try_each
+pub returns-in-Err : goal.returns-in-Err
 unfolding lookup_of
-returns-in-Blocked-try_each c =
-    quick_told _ _ _ _ (sym c.in-Across.is ∙ c.quick.ensures) _
-    (sym c.try_each.ensures ∙ c.in-Blocked-try_each.is)
+returns-in-Err c =
+    rw (two_told _ _ _ c.quick.ensures c.in_ok-place.was c.in-None.is, ← c.try_each.ensures, c.in-Err.is)

@@ -1,14 +1,14 @@
--- `load` meets its contract, by the one test. Assumes nothing.
-use mathlib.Core.Path.{sym, ◌∙◌}
-use Rattle.numbers.proofs.Bytes.{ends_inside, held_inside, held_outside}
+-- `load` meets its contract: the list holds the number. Assumes nothing.
+use Rattle.std.proofs.Common.{◌∙◌}
+use Rattle.numbers.proofs.Bytes.{held_four, held_eight}
 use Rattle.numbers.proofs.loads.load.Goals as goal
 
-pub load_inside-requires : goal.load_inside-requires
-load_inside-requires c = ends_inside _ _ _ (sym c.is_inside.ensures ∙ c.if-is_inside.true)
+pub returns-in_ok-four-in-Four : goal.returns-in_ok-four-in-Four
+returns-in_ok-four-in-Four c =
+    let part = c.in_ok-rest.ensures.lookup.0 in
+    rw c.in-Four.is (held_four _ _ _ part.2 part.3 _ _ c.in_ok-four-in-Four.ensures.cases (c.from.ensures ∙ c.from_le_bytes.ensures))
 
-pub returns-then-is_inside : goal.returns-then-is_inside
-returns-then-is_inside c =
-    rw c.load_inside.ensures (sym (held_inside _ _ _ (sym c.is_inside.ensures ∙ c.if-is_inside.true)))
-
-pub returns-else-is_inside : goal.returns-else-is_inside
-returns-else-is_inside c = sym (held_outside _ _ _ (sym c.is_inside.ensures ∙ c.if-is_inside.false))
+pub returns-in_ok-eight-in-Eight : goal.returns-in_ok-eight-in-Eight
+returns-in_ok-eight-in-Eight c =
+    let part = c.in_ok-rest.ensures.lookup.0 in
+    rw c.in-Eight.is (held_eight _ _ _ part.2 part.3 _ _ c.in_ok-eight-in-Eight.ensures.cases c.from_le_bytes-in-Eight.ensures)

@@ -1,20 +1,25 @@
--- `begins` meets its contract. The invariant: the whole test is what was told so far, and the test from here on. Assumes nothing.
+-- `begins` meets its contract. Assumes nothing.
+use Rattle.std.proofs.Common.{rules, arith, sym, refl, length}
+use Rattle.std.specs.Slice.Iter.{iter_rest}
+use mathlib.Core.Logic.{⊎_elim}
 use Rattle.texts.proofs.FormLaws.{begins_short}
-use Rattle.sheet.proofs.Turns.{begins_turn, begins_end}
-use mathlib.Core.Path.{refl, sym, ◌∙◌}
+use Rattle.sheet.proofs.Turns.{tell_mark, tell_all}
 use Rattle.sheet.proofs.forms.begins.Goals as goal
 
 pub returns-then-text-form : goal.returns-then-text-form
 returns-then-text-form c = sym (begins_short _ _ c.if-text-form.true)
 
-pub loop-i-init : goal.loop-i-init
-loop-i-init c = refl
+pub loop-mark-init : goal.loop-mark-init
+loop-mark-init c = record { told = search rules; room = search rules }
 
-pub loop-i-preserved : goal.loop-i-preserved
-loop-i-preserved c =
-    let args = c.args in
-    c.loop-i.invariant
-    ∙ rw c.fits_mark-good.ensures (begins_turn args.form.now args.text.now _ c.if-text-form.false c.loop-i-test.true c.loop-i.good)
+pub loop-mark-preserved : goal.loop-mark-preserved
+loop-mark-preserved c =
+    let steps = c.in-Some.ensures.steps in
+    rw c.fits_mark-good.ensures
+    (tell_mark _ _ _ _ _ _ (rw (steps.0, steps.1) at c.loop-mark.invariant))
 
 pub returns : goal.returns
-returns c = sym (c.loop-i.invariant ∙ begins_end _ _ _ c.loop-i-test.false _)
+returns c =
+    let room = c.loop-mark.invariant.room in
+    let none = ⊎_elim (λ a. a.1.0) (λ b. let e = b.1.0 in omega arith) c.in-None.ensures.steps in
+    sym (tell_all _ _ _ _ c.loop-mark.invariant none)

@@ -1,13 +1,8 @@
--- `begins`: the invariant and the measure of its loop. Assumes nothing.
+-- `begins`: the invariant of its loop: what was told so far, and what the marks left are to tell, is the whole. Assumes nothing.
 use Rattle.texts.specs.Fields.{begins}
-use lib.ListN.{length, drop}
-use Prim.Native.Nat.{◌-◌}
-use mathlib.Core.Bool.{◌&&◌}
-use mathlib.Core.Path.{◌≡◌}
+use Rattle.std.specs.Slice.Iter.{iter_rest}
+use Rattle.sheet.proofs.Turns.{Telling}
 use Rattle.sheet.proofs.forms.begins.Given as goal
 
-abbrev pub invariant-loop-i : goal.invariant-loop-i
-invariant-loop-i l = begins l.form l.text ≡ (l.good && begins (drop l.i l.form) (drop l.i l.text))
-
-abbrev pub decreases-loop-i : goal.decreases-loop-i
-decreases-loop-i l = length l.form - l.i
+abbrev pub invariant-loop-mark : goal.invariant-loop-mark
+invariant-loop-mark l = Telling (begins l.form l.text) l.good (iter_rest l.mark-iterator.a) (iter_rest l.mark-iterator.b)

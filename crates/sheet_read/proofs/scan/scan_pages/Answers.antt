@@ -1,77 +1,57 @@
 -- `scan_pages` meets its contract. The invariant: the pages counted and those from here on are all of them. Assumes nothing.
-use Prim.Native.Nat.{◌+◌, ◌≤◌}
-use mathlib.Core.Path.{◌≡◌, sym, ◌∙◌}
-use mathlib.Core.Bool.{true}
-use native.Mathlib.Omega.{arith}
-use lib.ListN.{length, take, drop}
+use Rattle.std.proofs.Common.{arith, ◌≡◌, ◌<◌, ◌≤◌, true, length, take, drop, refl}
 use Rattle.order.proofs.Laws.{number_room}
-use Rattle.texts.specs.Digits.{Below}
 use Rattle.texts.specs.Fields.{lines, begins}
 use Rattle.sheet.specs.Lines.{form, width}
-use Rattle.sheet.specs.Reading.{page_count}
+use Rattle.sheet.specs.Reading.{value, plain_count, page_count}
 use Rattle.sheet.specs.declared.line.Line.TheVariants.{Page}
-use Rattle.sheet.proofs.LineLaws.{values_below}
-use Rattle.sheet_read.specs.Scan.{Found}
-use Rattle.sheet_read.proofs.Places.{line_past}
-use Rattle.sheet_read.proofs.Pages.{stage}
-use Rattle.sheet_read.proofs.Bodies.{found}
-use Rattle.sheet_read.proofs.Stages.{counted_turn, counted_end, page_turn, page_low, page_end, lead_pages}
-use Rattle.sheet_read.proofs.scan.scan_pages.Goals.{At-loop-number, In-loop-number}
+use Rattle.sheet_read.proofs.Leads.{less_left, lead_room}
+use Rattle.sheet_read.proofs.Stages.{counted_end, page_turn, page_low, page_end, pages_plain}
+use Rattle.sheet_read.proofs.scan.scan_pages.Goals.{In-Some, After-number, After-behind-rest, Joined-of, in-Some+then-number-least, in_default}
 use Rattle.sheet_read.proofs.scan.scan_pages.Goals as goal
 
--- none is left to count: these are the pages
-counted : (c : At-loop-number) →
-    let at = c.args.at in
-    page_count c.loop-number.least (lines (drop c.loop-number.here c.args.text.now)) ≡ 0
-    → Found Page (page_count 0 (lines (drop at c.args.text.now))) c.args.text.now at (stage at c.loop-number.n)
-counted c none = found Page _ c.args.text.now _ _ c.requires (counted_end _ c.loop-number.invariant.0 none) (lead_pages 0 _)
+begun : (c : In-Some) → begins (form Page) c.loop-row.rest.now ≡ true
+begun c = rw (c.in-Some.ensures.0, c.in-Some.ensures.1) at c.in-Some.row.begun
 
--- a page line stands here
-begun : (c : In-loop-number) →
-    begins (form Page) (drop c.loop-number.here c.args.text.now) ≡ true
-begun c = sym c.stands.ensures ∙ c.loop-number-test.true
+entry : (c : After-number) → c.number.result ≡ value Page 0 (take (width Page) c.loop-row.rest.now)
+entry c = rw (c.in-Some.ensures.0, c.in-Some.ensures.1) at c.number.ensures
 
-past : (c : In-loop-number) →
-    c.loop-number.here + width Page ≤ length c.args.text.now
-past c =
-    line_past Page c.args.text.now c.loop-number.here (begun c)
+behind : (c : After-behind-rest) → c.behind-rest.result.now ≡ drop (width Page) c.loop-row.rest.now
+behind c = rw (c.in-Some.ensures.0, c.in-Some.ensures.1) at c.behind-rest.ensures
 
-pub loop-number-init : goal.loop-number-init
-loop-number-init c = (omega arith, omega arith)
+less : (c : After-behind-rest) → length c.behind-rest.result.now < length c.loop-row.rest.now
+less c = rw (behind c) (less_left _ _ (begun (goal.at.loop-row-smaller c).In-Some))
 
-pub field-requires : goal.field-requires
-field-requires c = (begun (goal.at.field-requires c).In-loop-number, omega arith)
-
-pub returns-then-number-least : goal.returns-then-number-least
-returns-then-number-least c =
-    counted (goal.at.returns-then-number-least c).At-loop-number
-    (page_low c.args.text.now c.loop-number.here _ _ (begun (goal.at.returns-then-number-least c).In-loop-number) c.field.ensures (rw c.page_number-number.ensures at c.if-number-least.true))
+-- the loop ends where no page is left to count
+counted : (c : Joined-of) → c.loop-row.count ≡ page_count 0 (lines c.args.text.now)
+counted c =
+    counted_end _ c.loop-row.invariant.0 (elim c.match-of.branch [
+      | in-Some+then-number-least w ↦ page_low c.loop-row.rest.now _ w.number.result
+          (rw (w.in-Some.ensures.0, w.in-Some.ensures.1) at w.in-Some.row.begun)
+          (rw (w.in-Some.ensures.0, w.in-Some.ensures.1) at w.number.ensures)
+          (rw w.page_number-number.ensures at w.if-number-least.true)
+      | in_default w ↦ page_end _ _ w.in_default.ensures
+    ])
 
 pub overflow_add-least : goal.overflow_add-least
-unfolding Below
-overflow_add-least c =
-    let small = number_room _ (values_below Page (take (width Page) (drop c.loop-number.here c.args.text.now)) 0) in
-    rw (c.page_number-number.ensures, c.field.ensures) (omega (arith, small))
+overflow_add-least c = rw c.page_number-number.ensures (let room = number_room _ c.number.type_inv in omega arith)
 
-pub overflow_add-n : goal.overflow_add-n
-overflow_add-n c = omega (arith, past (goal.at.overflow_add-n c).In-loop-number)
+pub loop-row-smaller : goal.loop-row-smaller
+loop-row-smaller c = less c
 
-pub past-here-requires : goal.past-here-requires
-past-here-requires c = omega (arith, past (goal.at.past-here-requires c).In-loop-number)
+pub loop-row-preserved : goal.loop-row-preserved
+loop-row-preserved c =
+    let fewer = less c in
+    let line = begun (goal.at.loop-row-preserved c).In-Some in
+    let above = rw c.page_number-number.ensures at c.if-number-least.false in
+    let turn = rw (← behind c, ← c.page_number-number.ensures) at (page_turn _ _ _ line (entry (goal.at.loop-row-preserved c).After-number) above) in
+    let before = c.loop-row.invariant in (omega (arith, before.0), omega (arith, before.1))
 
-pub loop-number-smaller : goal.loop-number-smaller
-loop-number-smaller c = omega (arith, past (goal.at.loop-number-smaller c).In-loop-number, c.past-here.ensures)
-
-pub loop-number-preserved : goal.loop-number-preserved
-loop-number-preserved c =
-    rw (c.past-here.ensures, c.page_number-number.ensures)
-    ((
-      counted_turn _ _ _ c.loop-number.invariant.0
-          (page_turn c.args.text.now c.loop-number.here _ _ (begun (goal.at.loop-number-preserved c).In-loop-number) c.field.ensures
-          (rw c.page_number-number.ensures at c.if-number-least.false)),
-      omega arith,
-    ))
+pub invariant_of-result : goal.invariant_of-result
+invariant_of-result c =
+    let plain = pages_plain 0 (lines c.args.text.now) in
+    let stands : c.loop-row.count ≤ plain_count Page (lines c.args.text.now) = omega (arith, counted c) in
+    record { stands = stands; room = omega (arith, lead_room Page _ _ stands) }
 
 pub returns : goal.returns
-returns c =
-    counted (goal.at.returns c).At-loop-number (page_end c.args.text.now c.loop-number.here _ (sym c.stands.ensures ∙ c.loop-number-test.false))
+returns c = record { kind = refl; text = refl; counted = counted (goal.at.returns c).Joined-of }

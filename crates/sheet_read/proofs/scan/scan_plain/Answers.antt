@@ -1,47 +1,35 @@
 -- `scan_plain` meets its contract. The invariant: the lines counted and those from here on are all of them. Assumes nothing.
-use Prim.Native.Nat.{◌+◌, ◌≤◌}
-use mathlib.Core.Path.{◌≡◌, sym, ◌∙◌}
-use mathlib.Core.Bool.{true}
-use native.Mathlib.Omega.{arith}
-use lib.ListN.{length, drop}
-use Rattle.texts.specs.Fields.{begins}
+use Rattle.std.proofs.Common.{arith, ◌≡◌, ◌<◌, ◌≤◌, true, length, drop, refl}
+use Rattle.texts.specs.Fields.{lines, begins}
 use Rattle.sheet.specs.Lines.{form, width}
-use Rattle.sheet_read.proofs.Places.{line_past}
-use Rattle.sheet_read.proofs.Stages.{counted_turn, counted_end, plain_turn, plain_end, lead_plain}
-use Rattle.sheet_read.proofs.Bodies.{found}
-use Rattle.sheet_read.proofs.scan.scan_plain.Goals.{In-loop-line}
+use Rattle.sheet.specs.Reading.{plain_count}
+use Rattle.sheet_read.proofs.Leads.{plain_turn, plain_end, less_left, lead_room}
+use Rattle.sheet_read.proofs.Stages.{counted_end}
+use Rattle.sheet_read.proofs.scan.scan_plain.Goals.{In-Some, After-behind-rest}
 use Rattle.sheet_read.proofs.scan.scan_plain.Goals as goal
 
--- a line of the kind stands here
-begun : (c : In-loop-line) →
-    begins (form c.args.line) (drop c.loop-line.here c.args.text.now) ≡ true
-begun c = sym c.stands.ensures ∙ c.loop-line-test.true
+begun : (c : In-Some) → begins (form c.args.kind) c.loop-row.rest.now ≡ true
+begun c = rw (c.in-Some.ensures.0, c.in-Some.ensures.1) at c.in-Some.row.begun
 
-past : (c : In-loop-line) →
-    c.loop-line.here + width c.args.line ≤ length c.args.text.now
-past c =
-    line_past c.args.line c.args.text.now c.loop-line.here (begun c)
+behind : (c : After-behind-rest) → c.behind-rest.result.now ≡ drop (width c.args.kind) c.loop-row.rest.now
+behind c = rw (c.in-Some.ensures.0, c.in-Some.ensures.1) at c.behind-rest.ensures
 
-pub loop-line-init : goal.loop-line-init
-loop-line-init c = (omega arith, omega arith)
+less : (c : After-behind-rest) → length c.behind-rest.result.now < length c.loop-row.rest.now
+less c = rw (behind c) (less_left _ _ (begun (goal.at.loop-row-smaller c).In-Some))
 
-pub overflow_add-n : goal.overflow_add-n
-overflow_add-n c = omega (arith, past (goal.at.overflow_add-n c).In-loop-line)
+pub loop-row-smaller : goal.loop-row-smaller
+loop-row-smaller c = less c
 
-pub overflow_add-here : goal.overflow_add-here
-overflow_add-here c = omega (arith, past (goal.at.overflow_add-here c).In-loop-line, c.width-here.ensures)
+pub loop-row-preserved : goal.loop-row-preserved
+loop-row-preserved c =
+    let fewer = less c in
+    let turn = rw (← behind c) at (plain_turn _ _ (begun (goal.at.loop-row-preserved c).In-Some)) in
+    let before = c.loop-row.invariant in (omega (arith, before.0), omega (arith, before.1))
 
-pub loop-line-smaller : goal.loop-line-smaller
-loop-line-smaller c = omega (arith, past (goal.at.loop-line-smaller c).In-loop-line, c.width-here.ensures)
-
-pub loop-line-preserved : goal.loop-line-preserved
-loop-line-preserved c = (
-  rw c.width-here.ensures (counted_turn _ _ _ c.loop-line.invariant.0 (plain_turn c.args.line c.args.text.now c.loop-line.here (begun (goal.at.loop-line-preserved c).In-loop-line))),
-  omega (arith, c.width-here.ensures),
-)
+pub invariant_of-result : goal.invariant_of-result
+invariant_of-result c =
+    let stands : c.loop-row.count ≤ plain_count c.args.kind (lines c.args.text.now) = omega (arith, c.loop-row.invariant.0) in
+    record { stands = stands; room = omega (arith, lead_room c.args.kind _ _ stands) }
 
 pub returns : goal.returns
-returns c =
-    found c.args.line _ c.args.text.now _ _ c.requires
-    (counted_end _ c.loop-line.invariant.0 (plain_end c.args.line c.args.text.now c.loop-line.here (sym c.stands.ensures ∙ c.loop-line-test.false)))
-    (lead_plain c.args.line _)
+returns c = record { kind = refl; text = refl; counted = counted_end _ c.loop-row.invariant.0 (plain_end _ _ c.in_default.ensures) }

@@ -1,18 +1,12 @@
--- `scan_words`: the invariant and the measure of its loop. Assumes nothing.
-use Prim.Native.Nat.{◌+◌, ◌*◌, ◌≤◌}
-use mathlib.Core.Path.{◌≡◌}
-use lib.ListN.{length, drop}
+-- `scan_words`: the invariant of its loop: the word lines of the pages from the k-th on are to be taken. Assumes nothing.
+use Rattle.std.proofs.Common.{◌≡◌, ◌+◌}
 use Rattle.texts.specs.Fields.{lines}
-use Rattle.sheet.specs.Lines.{width}
-use Rattle.sheet.specs.declared.line.Line.TheVariants.{Page, Word}
-use Rattle.sheet_read.specs.Scan.{Lead, numbers_in, word_count}
-use Rattle.sheet_read.proofs.Pages.{stage}
+use Rattle.sheet.specs.Reading.{past_pages}
+use Rattle.sheet_read.specs.Scan.{numbers_in, behind, word_count}
+use Rattle.sheet_read.proofs.Pages.{entries_from}
 use Rattle.sheet_read.proofs.scan.scan_words.Given as goal
 
-abbrev pub invariant-loop-left : goal.invariant-loop-left
-invariant-loop-left l =
-    (word_count (numbers_in Page (stage l.initial.page l.initial.left) l.text) (lines (drop l.at l.text)) ≡ l.n + word_count (numbers_in Page (stage l.page l.left) l.text) (lines (drop l.here l.text)))
-    × Lead Page l.left (lines (drop l.page l.text)) × (width Word * l.n ≤ l.here) × (l.here ≤ length l.text) × (l.page + width Page * l.left ≤ length l.text)
-
-abbrev pub decreases-loop-left : goal.decreases-loop-left
-decreases-loop-left l = l.left
+abbrev pub invariant-loop-k : goal.invariant-loop-k
+invariant-loop-k l =
+    (past_pages (numbers_in l.pages) (behind l.pages) ≡ past_pages (entries_from l.pages l.k) (lines l.words.text.now))
+    × (word_count (numbers_in l.pages) (behind l.pages) ≡ l.words.count + word_count (entries_from l.pages l.k) (lines l.words.text.now))

@@ -6,7 +6,7 @@ use native.Mathlib.Omega.{arith}
 use lib.ListN.{length}
 use Rattle.state_words.proofs.Laws.{good_fields}
 use Rattle.instructions.specs.Instruction.{instruction_words}
-use Rattle.sheet.specs.Lent.{Buffers}
+use Rattle.sheet.specs.Lent.{Buffers, buffers_in}
 use Rattle.sheet.specs.Sheets.{text, saved_of}
 use Rattle.sheet.proofs.TestedLaws.{Passes, passes}
 use Rattle.sheet_write.specs.Laying.{text_length}
@@ -15,9 +15,6 @@ use Rattle.sheet_write.proofs.Answers.{too_long, done}
 use Rattle.sheet_write.proofs.Apart.{lent}
 use Rattle.sheet_write.proofs.Sizes.{nonzeros_most, text_size}
 use Rattle.sheet_write.proofs.text.print.Goals as goal
-
-abbrev run : List ℕ → List ℕ → List ℕ → List ℕ → Buffers
-run state pages bytes words = record { state = state; pages = pages; bytes = bytes; words = words }
 
 -- the count is the text's length
 long : (lent : Buffers) → Passes lent → (found counted : ℕ) → found ≡ nonzeros (length lent.bytes / 8) lent.bytes
@@ -29,21 +26,21 @@ long lent ready found counted found_is counted_is =
 
 pub text_length-long-requires : goal.text_length-long-requires
 text_length-long-requires c =
-    let ready = passes (run c.args.state.now c.args.pages.now c.args.bytes.now c.args.words.now) c.requires in
+    let ready = passes (buffers_in c.args.parts) c.requires in
     let pages = ready.list.few in
     let whole = ready.list.whole in
-    let most = nonzeros_most (length c.args.bytes.now / 8) c.args.bytes.now in
+    let most = nonzeros_most (length c.args.parts.bytes.now / 8) c.args.parts.bytes.now in
     let found = c.nonzero.ensures in
     (pages, omega arith, ready.few)
 
 pub returns-then-text-long : goal.returns-then-text-long
 returns-then-text-long c =
-    let lent = run c.args.state.now c.args.pages.now c.args.bytes.now c.args.words.now in
+    let lent = buffers_in c.args.parts in
     too_long _ _ _ (long lent (passes lent c.requires) _ _ c.nonzero.ensures c.text_length-long.ensures) (omega arith)
 
 pub lay-requires : goal.lay-requires
 lay-requires c =
-    let given = run c.args.state.now c.args.pages.now c.args.bytes.now c.args.words.now in
+    let given = buffers_in c.args.parts in
     let ready = passes given c.requires in
     let long-is = long given ready _ _ c.nonzero.ensures c.text_length-long.ensures in
     let fits = c.if-text-long.false in
@@ -54,5 +51,5 @@ lay-requires c =
 
 pub returns : goal.returns
 returns c =
-    let lent = run c.args.state.now c.args.pages.now c.args.bytes.now c.args.words.now in
+    let lent = buffers_in c.args.parts in
     done _ _ _ (long lent (passes lent c.requires) _ _ c.nonzero.ensures c.text_length-long.ensures) _ (omega arith) c.lay.ensures

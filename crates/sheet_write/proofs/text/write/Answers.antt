@@ -1,22 +1,17 @@
 -- `write` meets its contract: its tests are those of a run, and a run that passes them is printed. Assumes nothing.
-use mathlib.Core.Path.{◌≡◌, sym, ◌∙◌}
-use Rattle.sheet.specs.Lent.{tested}
+use Rattle.std.proofs.Common.{◌∙◌, sym}
+use Rattle.std.proofs.lemmas.Result.{err_from_is_err_and}
 use Rattle.sheet_write.proofs.Answers.{refused, passed}
-use Rattle.sheet_write.proofs.text.write.Goals.{After-check}
 use Rattle.sheet_write.proofs.text.write.Goals as goal
 
--- what the tests found
-found : (c : After-check) →
-    let args = c.args in
-    c.check.result ≡ tested (record { state = args.state.now; pages = args.pages.now; bytes = args.bytes.now; words = args.words.now })
-found c = rw (← c.good_state.ensures) c.check.ensures
+pub returns-in_err-check : goal.returns-in_err-check
+returns-in_err-check c =
+    let p = err_from_is_err_and c.from_residual.result c.from_residual.ensures.1 in
+    let tests = rw c.good_state-good.ensures at c.in_err-check.ensures in
+    rw (p.1, p.2) (refused _ _ _ (sym tests))
 
 pub print-requires : goal.print-requires
-print-requires c = sym (found (goal.at.print-requires c).After-check) ∙ c.in-Passed.is
+print-requires c = let tests = rw c.good_state-good.ensures at c.in_ok-check.ensures in sym tests
 
-pub returns-in-Failed : goal.returns-in-Failed
-returns-in-Failed c = refused _ _ _ (sym (found (goal.at.returns-in-Failed c).After-check) ∙ c.in-Failed.is)
-
-pub returns-in-Passed : goal.returns-in-Passed
-returns-in-Passed c =
-    c.print.ensures ∙ passed _ _ (sym (found (goal.at.returns-in-Passed c).After-check) ∙ c.in-Passed.is)
+pub returns : goal.returns
+returns c = let tests = rw c.good_state-good.ensures at c.in_ok-check.ensures in c.print.ensures ∙ passed _ _ (sym tests)

@@ -1,21 +1,15 @@
--- `nonzero` meets its contract. The invariant: what was found, and what is still to be found, is the whole count. Assumes nothing.
-use mathlib.Core.Path.{sym, ◌∙◌}
-use Rattle.sheet_write.proofs.ValueLaws.{counted_none, counted_all, counted_zero, counted_more}
-use Rattle.sheet_write.proofs.values.nonzero.Goals.{then-value_at-ne0, else-value_at-ne0}
+-- `nonzero` meets its contract: the chunks are the values. Assumes nothing.
+use Rattle.std.proofs.Common.{rules, tests, ◌∙◌, ◌/◌, sym, subst, length}
+use Rattle.std.specs.Slice.Iter.{chunks_exact_steps}
+use Rattle.std.proofs.lemmas.Iterator.{YieldsList}
+use Rattle.std.proofs.lemmas.Iterator.Consumers.{YieldsList-from_filter, count_from_yields_List}
+use Rattle.sheet_write.proofs.ValueLaws.{pieces, values_yielded, not_zero, nonzeros_kept}
 use Rattle.sheet_write.proofs.values.nonzero.Goals as goal
 
-pub loop-k-init : goal.loop-k-init
-loop-k-init c = counted_none _ _
-
-pub loop-k-preserved : goal.loop-k-preserved
-loop-k-preserved c =
-    let h = c.loop-k-test.true in
-    let inv = c.loop-k.invariant in
-    let value = c.value_at.ensures in
-    elim c.if-value_at-ne0.branch [
-      | then-value_at-ne0 w ↦ rw w.found-is (counted_more _ _ _ _ h inv (λ e. w.if-value_at-ne0.true (value ∙ e)))
-      | else-value_at-ne0 w ↦ rw w.found-is (counted_zero _ _ _ _ h inv (sym value ∙ w.if-value_at-ne0.false))
-    ]
-
 pub returns : goal.returns
-returns c = counted_all _ _ _ _ c.loop-k-test.false c.loop-k.invariant
+returns c =
+    let all = c.chunks_exact.ensures in
+    let source = values_yielded c.chunks_exact.result c.args.bytes.now all.size all.rest in
+    count_from_yields_List _ _ c.count.ensures.ran
+    (YieldsList-from_filter _ not_zero (subst (λ s. YieldsList chunks_exact_steps (λ x. x.now) s (pieces (length c.args.bytes.now / 8) c.args.bytes.now)) (sym c.filter.ensures.source) source) c.filter.ensures.closure (λ x b q k. search (rules, tests)))
+    ∙ nonzeros_kept _ _

@@ -12,5 +12,5 @@ pub returns : goal.returns
 unfolding number
 returns c =
     let room : c.args.at + 2 ≤ length c.args.text.now = omega (arith, c.requires) in
-    rw (c.put_digits.ensures, c.copy_bytes.ensures.out_after, laid_if_lem _ _ (tab ∷ letter_x ∷ []) room)
+    rw (c.put_digits.ensures, c.copy.ensures.out_after, laid_if_lem _ _ (tab ∷ letter_x ∷ []) room)
     (sym (laid_turn _ _ (tab ∷ letter_x ∷ []) (hex 16 _) room))

@@ -1,9 +1,0 @@
--- `State::width` meets its contract, by the mode. Assumes nothing.
-use mathlib.Core.Path.{sym, ◌∙◌}
-use Rattle.processor.proofs.state.State.width.Goals as goal
-
-pub returns-then-is_long : goal.returns-then-is_long
-returns-then-is_long c = rw (sym c.is_long.ensures ∙ c.if-is_long.true)
-
-pub returns-else-is_long : goal.returns-else-is_long
-returns-else-is_long c = rw (sym c.is_long.ensures ∙ c.if-is_long.false)

@@ -1,9 +1,0 @@
--- `line_count` meets its contract. Assumes nothing.
-use borrow.Author.Tests.{eq-eqb, ne_eqb}
-use Rattle.sheet_read.proofs.scan.line_count.Goals as goal
-
-pub returns-then-value-eq0 : goal.returns-then-value-eq0
-returns-then-value-eq0 c = rw (eq-eqb _ _ c.if-value-eq0.true)
-
-pub returns-else-value-eq0 : goal.returns-else-value-eq0
-returns-else-value-eq0 c = rw (ne_eqb _ _ c.if-value-eq0.false)
