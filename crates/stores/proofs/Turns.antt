@@ -1,4 +1,4 @@
--- The loops over the stores of a list: where each lies, and what they leave. Assumes nothing.
+-- The loops over the stores of a list: where each lies, whether it can be done, and what they leave. Assumes nothing.
 use Rattle.std.proofs.Common.{ℕ, zero, suc, ◌+◌, ◌<◌, ◌≤◌, ◌≡◌, refl, false, List, [], ◌∷◌, length, get_or, drop, Option, Some, None, Result, Ok, Err, arith, add-one, drop-cons, drop_of_length-le}
 use Rattle.addresses.specs.declared.address.Width.TheVariants.{Bits32}
 use Rattle.numbers.specs.declared.size.Size.TheVariants.{Four}
@@ -91,8 +91,8 @@ headed (Ok place) (Ok after) places e = record { place = place; after = after; h
 headed (Ok place) (Err blocked) places e = let z : ◌≡◌ {A = ℕ} 0 1 = cc in absurd (omega arith)
 headed (Err blocked) there places e = let z : ◌≡◌ {A = ℕ} 0 1 = cc in absurd (omega arith)
 
--- a store that lies somewhere can be done
-can_be_done : (a : Access) (found : Result (Option ℕ) Failure) (place : Option ℕ) → against a found ≡ Ok place → found ≡ Ok place
+-- what was found of an access that can be done
+can_be_done : {A : Type 0} (a : Access) (found : Result A Failure) (place : A) → against a found ≡ Ok place → found ≡ Ok place
 can_be_done a (Ok found) place e = cc
 can_be_done a (Err failure) place e = let z : ◌≡◌ {A = ℕ} 0 1 = cc in absurd (omega arith)
 
@@ -103,6 +103,31 @@ unfolding located_all
 its_place look [] places k among e = absurd (omega arith)
 its_place look (s ∷ rest) places zero among e = let h = headed _ _ places e in rw h.places_are (can_be_done s.access (located look s.access) h.place h.here_is)
 its_place look (s ∷ rest) places (suc k) among e = let h = headed _ _ places e in rw h.places_are (its_place look rest h.after k (omega arith) h.there_is)
+
+-- ---- a list that is only tried
+
+-- those from the k-th on
+pub try_from : (look : Lookup) (stores : List Store) (k : ℕ) → k < length stores
+    → try_all look (drop k stores) ≡ then_try (forget (place_of look (get_or stores k no_store))) (try_all look (drop (k + 1) stores))
+unfolding try_all
+try_from look stores k among = rw (drop-cons stores k no_store among, add-one k, tried_one look (get_or stores k no_store).access)
+
+-- past the last
+pub try_none : (look : Lookup) (stores : List Store) (k : ℕ) → length stores ≤ k → try_all look (drop k stores) ≡ Ok tt
+unfolding try_all
+try_none look stores k past = rw (drop_of_length-le stores past)
+
+both_done : (here there : Result (Unit {0}) Blocked) → then_try here there ≡ Ok tt → (here ≡ Ok tt) × (there ≡ Ok tt)
+both_done (Ok x) there e = (refl, e)
+both_done (Err blocked) there e = let z : ◌≡◌ {A = ℕ} 0 1 = cc in absurd (omega arith)
+
+-- where all can be done, the k-th can
+pub each_done : (look : Lookup) (stores : List Store) (k : ℕ) → k < length stores → try_all look stores ≡ Ok tt
+    → probe look (get_or stores k no_store).access ≡ Ok tt
+unfolding try_all
+each_done look [] k among e = absurd (omega arith)
+each_done look (s ∷ rest) zero among e = can_be_done s.access (probe look s.access) tt (both_done (against s.access (probe look s.access)) (try_all look rest) e).0
+each_done look (s ∷ rest) (suc k) among e = each_done look rest k (omega arith) (both_done (against s.access (probe look s.access)) (try_all look rest) e).1
 
 -- ---- what the stores leave
 

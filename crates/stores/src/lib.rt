@@ -2,12 +2,15 @@
 // done leaves every byte as it was.
 #![tactic(auto)]
 
+mod list;
+
 ghost use Rattle.std.specs.Prelude.{◌≡◌, Ok};
 ghost use Rattle.accesses.specs.Access.{lookup_of, written};
 ghost use Rattle.memory.specs.OnePage.{located};
 ghost use Rattle.stores.specs.Stores.{try_all, written_all, left_by};
 ghost use Rattle.stores.specs.Places.{located_all};
 
+pub use list::store_list;
 use memory::{Access, Blocked, store_at};
 
 // A store that is to be made: the value's low bytes, by an access.
