@@ -9,7 +9,7 @@ ghost use Rattle.perform.specs.Exec.{or_wrss, perform as perform_of};
 ghost use Rattle.perform.specs.Codes.{codes, target as target_of, framed as framed_of, program};
 
 use instructions::{Instruction, Operation, Target, hidden, shown};
-use processor::{Answer, Fault, Outcome, Refusal, State};
+use processor::{Fault, Outcome, Refusal, State};
 
 // Where a call goes.
 fn call_target(target: Target, step: Instruction, state: State) -> u64
@@ -73,10 +73,8 @@ pub fn perform(step: Instruction, state: State, pages: &[u64], bytes: &mut [u8])
         pages,
         bytes,
     ) {
-        Ok(after) => Outcome {
-            answer: Answer::Completed,
-            state: shown(state, after),
-        },
+        // IP is where the operation has left it.
+        Ok(after) => shown(state, after).complete(after.ip),
         Err(fault) => state.fail(fault),
     }
 }

@@ -1,6 +1,7 @@
 -- `perform` meets its contract: the form is tested, then the operation runs on the state without the permission bits. Assumes nothing.
 use Rattle.std.proofs.Common.{sym, ◌∙◌, Ok, Err}
-use Rattle.perform.proofs.ExecLaws.{malformed, performed}
+use Rattle.instructions.specs.Permission.{shown}
+use Rattle.perform.proofs.ExecLaws.{malformed, answered}
 use Rattle.perform.proofs.perform.Goals.{in_default-via-in-Ok+else-fits, in_default-via-in_default}
 use Rattle.perform.proofs.perform.Goals as goal
 
@@ -13,13 +14,14 @@ returns-in_default c =
     ]))
 
 pub returns-in-Ok-dispatch : goal.returns-in-Ok-dispatch
+unfolding shown
 returns-in-Ok-dispatch c =
-    rw c.shown.ensures
-    (performed _ _ _ _ c.in-Ok.operation (Ok c.in-Ok-dispatch.after) _ (sym c.try_from.ensures ∙ c.in-Ok.is) (sym c.fits.ensures ∙ c.if-fits.true)
+    rw (c.complete.ensures, c.shown.ensures)
+    (answered _ _ _ _ c.in-Ok.operation (Ok c.in-Ok-dispatch.after) _ (sym c.try_from.ensures ∙ c.in-Ok.is) (sym c.fits.ensures ∙ c.if-fits.true)
     (rw (← c.hidden.ensures, ← c.permitted.ensures) c.in-Ok-dispatch.ensures))
 
 pub returns-in-Err : goal.returns-in-Err
 returns-in-Err c =
     rw c.fail.ensures
-    (performed _ _ _ _ c.in-Ok.operation (Err c.in-Err.fault) _ (sym c.try_from.ensures ∙ c.in-Ok.is) (sym c.fits.ensures ∙ c.if-fits.true)
+    (answered _ _ _ _ c.in-Ok.operation (Err c.in-Err.fault) _ (sym c.try_from.ensures ∙ c.in-Ok.is) (sym c.fits.ensures ∙ c.if-fits.true)
     (rw (← c.hidden.ensures, ← c.permitted.ensures) c.in-Err.ensures))
