@@ -6,13 +6,17 @@ use Rattle.answers.specs.declared.answer.Fault.{Fault}
 use Rattle.instructions.specs.Operation.{decoded}
 use Rattle.replay.specs.Run.{Input, listed, Run, replayed}
 use Rattle.instructions.specs.declared.operation.Operation.{Operation}
-use Rattle.instructions.specs.declared.operation.Operation.TheVariants.{Rstorssp, Ret}
+use Rattle.instructions.specs.declared.operation.Operation.TheVariants.{Incssp, Rstorssp, Saveprevssp, Wrss, Call, Ret, Wruss}
 
 -- the error code of an operation's #CP; 0 where it raises none
 abbrev pub control_code : Operation → ℕ
+control_code (Incssp size) = 0
 control_code Rstorssp = 4
+control_code Saveprevssp = 0
+control_code (Wrss size) = 0
+control_code (Call target) = 0
 control_code (Ret release) = 1
-control_code other = 0
+control_code (Wruss size) = 0
 
 -- The fault of an operation. #CP (21) comes of RSTORSSP, with error code 4, and of RET, with 1, and of no other; any other fault has error
 -- code 0. The address is 0 but for #PF (14).

@@ -10,7 +10,7 @@ use Rattle.instructions.specs.Operation.{decoded}
 use Rattle.replay.specs.Run.{Input, listed, Run, after, built, replayed}
 use Rattle.instructions.specs.declared.instruction.Instruction.{Instruction}
 use Rattle.instructions.specs.declared.operation.Operation.{Operation}
-use Rattle.instructions.specs.declared.operation.Operation.TheVariants.{Incssp, Rstorssp, Saveprevssp, Call, Ret}
+use Rattle.instructions.specs.declared.operation.Operation.TheVariants.{Incssp, Rstorssp, Saveprevssp, Wrss, Call, Ret, Wruss}
 use Rattle.instructions.specs.declared.operation.Target.TheVariants.{Relative, Absolute}
 
 -- bytes of a frame, where the shadow stack is enabled, and otherwise 0
@@ -21,17 +21,25 @@ frame_bytes s = cond (enabled s) (byte_count (pushed s)) 0
 -- hole by SAVEPREVSSP, a frame by RET
 abbrev pub popped : Operation → Instruction → State → ℕ
 popped (Incssp size) i s = byte_count size * (i.b % 256)
+popped Rstorssp i s = 0
 popped Saveprevssp i s = cond (carry s) 12 8
+popped (Wrss size) i s = 0
+popped (Call target) i s = 0
 popped (Ret release) i s = frame_bytes s
-popped other i s = 0
+popped (Wruss size) i s = 0
 
 -- Bytes pushed by an instruction that completes from this opening state: a frame by every CALL but a relative one with displacement 0.
 -- Whether there is a frame goes by the words of the instruction and not by CALL's `displaced`, so that the ledger holds only where the
 -- two agree; its size and `enabled` are the operations' own.
 abbrev pub pushed_by : Operation → Instruction → State → ℕ
+pushed_by (Incssp size) i s = 0
+pushed_by Rstorssp i s = 0
+pushed_by Saveprevssp i s = 0
+pushed_by (Wrss size) i s = 0
 pushed_by (Call Relative) i s = cond (eqb i.a 0) 0 (frame_bytes s)
 pushed_by (Call Absolute) i s = frame_bytes s
-pushed_by other i s = 0
+pushed_by (Ret release) i s = 0
+pushed_by (Wruss size) i s = 0
 
 -- what an instruction counts for, by its code; one that names no operation never completes
 abbrev pub counted : (Operation → Instruction → State → ℕ) → Option Operation → Instruction → State → ℕ

@@ -52,9 +52,13 @@ words_fit (Wruss size) i = true
 
 -- mode 0 has no call and no return
 abbrev pub in_mode0 : Operation → Bool
+in_mode0 (Incssp size) = true
+in_mode0 Rstorssp = true
+in_mode0 Saveprevssp = true
+in_mode0 (Wrss size) = true
 in_mode0 (Call target) = false
 in_mode0 (Ret release) = false
-in_mode0 other = true
+in_mode0 (Wruss size) = true
 
 abbrev pub is_four : Size → Bool
 is_four Four = true
@@ -63,9 +67,12 @@ is_four Eight = false
 -- mode 1 has no form of 8 bytes
 abbrev pub in_mode1 : Operation → Bool
 in_mode1 (Incssp size) = is_four size
+in_mode1 Rstorssp = true
+in_mode1 Saveprevssp = true
 in_mode1 (Wrss size) = is_four size
+in_mode1 (Call target) = true
+in_mode1 (Ret release) = true
 in_mode1 (Wruss size) = is_four size
-in_mode1 other = true
 
 -- and no word of more than 32 bits
 unfoldable pub narrow : Operation → Instruction → Bool

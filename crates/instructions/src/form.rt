@@ -54,7 +54,14 @@ impl Operation {
     fn in_mode_0(self) -> bool
         ensures { result ≡ in_mode0 self }
     {
-        !matches!(self, Operation::Call(_) | Operation::Ret(_))
+        match self {
+            Operation::Call(_) | Operation::Ret(_) => false,
+            Operation::Incssp(_)
+            | Operation::Rstorssp
+            | Operation::Saveprevssp
+            | Operation::Wrss(_)
+            | Operation::Wruss(_) => true,
+        }
     }
 
     fn in_mode_1(self) -> bool
