@@ -59,7 +59,7 @@ module _ (kind : Line) (u : List ℕ) (n : ℕ) (out : List ℕ) where
 
 module _ (out : List ℕ) (at base : ℕ) (ls : List (List ℕ)) where
   pub slot_start : laid out at (slot_bytes base slots ls) ≡ laid out (at + 8 * 0) (slot_bytes (base + 8 * 0) (slots - 0) ls)
-  slot_start = rw add-zero (ap (laid out at) (bytes_start base ls))
+  slot_start = rw (add-zero at) (ap (laid out at) (bytes_start base ls))
 
   pub slot_turn : (slot : ℕ) → slot < slots → at + page_bytes ≤ length out → (v : ℕ) (rest : List (List ℕ))
       → v ≡ slot_value (base + 8 * slot) ls → rest ≡ past_slot (base + 8 * slot) ls

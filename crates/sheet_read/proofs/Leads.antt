@@ -24,7 +24,11 @@ module _ (kind : Line) where
   pub front_line : (u : List ℕ) → begins (form kind) u ≡ true → is_line kind (take (width kind) u) ≡ true
   front_line u begun = rw (lines_step kind u begun) at (next_line kind u) ∙ begun
 
-  plain_cons : (l : List ℕ) (ls : List (List ℕ)) → is_line kind l ≡ true → plain_count kind (l ∷ ls) ≡ suc (plain_count kind ls)
+  plain_nil : plain_count kind [] ≡ 0
+  unfolding plain_count
+  plain_nil = refl
+
+  pub plain_cons : (l : List ℕ) (ls : List (List ℕ)) → is_line kind l ≡ true → plain_count kind (l ∷ ls) ≡ suc (plain_count kind ls)
   unfolding plain_count
   plain_cons l ls h = rw h
 
@@ -79,6 +83,19 @@ module _ (kind : Line) where
   lead_count (suc n) u h =
       let both = one_and n u h in
       rw (← past n u, lines_step kind u both.0, suc-add) (ap suc (lead_count n (drop (width kind) u) both.1))
+
+  -- n lines behind the first m are m + n lines
+  pub lead_more : (m n : ℕ) (ls : List (List ℕ)) → m ≤ plain_count kind ls → n ≤ plain_count kind (drop m ls) → m + n ≤ plain_count kind ls
+  lead_more zero n ls first rest = rw zero-add rest
+  lead_more (suc m) n [] first rest = let none = plain_nil in absurd (omega arith)
+  lead_more (suc m) n (l ∷ ls) first rest = go (is_line kind l) refl (λ h. lead_more m n ls h rest)
+    where
+      go : (b : Bool) → is_line kind l ≡ b → (m ≤ plain_count kind ls → m + n ≤ plain_count kind ls) → suc m + n ≤ plain_count kind (l ∷ ls)
+      go true e more =
+          let turn = plain_cons l ls e in
+          let both = more (omega arith) in
+          omega arith
+      go false e more = let none = plain_other (l ∷ ls) e in absurd (omega arith)
 
   -- n more lines stand behind the first k
   pub lead_rest : (k n : ℕ) (u : List ℕ) → k + n ≤ plain_count kind (lines u) → n ≤ plain_count kind (lines (drop (width kind * k) u))

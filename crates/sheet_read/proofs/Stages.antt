@@ -1,12 +1,13 @@
 -- The turns of the loops that count and take lines: what each definition gives of a text, in the terms of the code. Assumes nothing.
 use Prim.Native.Nat.{ℕ, zero, suc, ◌+◌, ◌-◌, ◌*◌, ◌<◌, ◌≤◌}
-use mathlib.Core.Path.{◌≡◌, refl, sym, ◌∙◌}
+use mathlib.Core.Path.{◌≡◌, refl, sym, ap, ◌∙◌}
 use mathlib.Core.Bool.{Bool, true, false, not, cond, ◌&&◌}
 use mathlib.Core.List.{List, [], ◌∷◌, ◌++◌}
 use native.Mathlib.Nat.{add-zero, zero-add}
 use native.Mathlib.Numerals.{add-one, one-add}
 use native.Mathlib.Omega.{arith}
 use lib.ListN.{length, take, drop}
+use lib.Seq.{drop-drop}
 use lib.Dec.{eqb, leb}
 use borrow.Author.Tests.{not-true, eqb-true, eq-eqb, ne_eqb, le-leb, lt-leb}
 use Rattle.pages.specs.Pages.{page_of}
@@ -20,7 +21,7 @@ use Rattle.sheet.specs.declared.line.Line.TheVariants.{Page, Word}
 use Rattle.texts.proofs.DigitLaws.{both}
 use Rattle.sheet.proofs.LineLaws.{next_line, lines_step, nothing_begins}
 use Rattle.sheet_read.specs.Scan.{slot_count, word_count}
-use Rattle.sheet_read.proofs.Leads.{front_line}
+use Rattle.sheet_read.proofs.Leads.{front_line, plain_cons, lead_more}
 
 -- ---- a count so far and a count from here on
 
@@ -125,6 +126,10 @@ unfolding is_word is_line
 no_line address = rw (nothing_begins Word)
 
 module _ (address : ℕ) (l : List ℕ) (ls : List (List ℕ)) (own : is_word address l ≡ true) where
+  word_line : is_line Word l ≡ true
+  unfolding is_word
+  word_line = (both _ _ own).0
+
   not_zero : eqb (value Word 1 l) 0 ≡ false
   unfolding is_word
   not_zero = not-true _ (both (eqb (value Word 0 l) address) _ (both (is_line Word l) _ own).1).1
@@ -144,6 +149,54 @@ slot_length address (l ∷ ls) = go (is_word address l) refl
     go : (b : Bool) → is_word address l ≡ b → line_count (slot_value address (l ∷ ls)) + length (past_slot address (l ∷ ls)) ≡ length (l ∷ ls)
     go true e = rw (one_line address l ls e, one_left address l ls e) (omega arith)
     go false e = rw (value_none address (l ∷ ls) e, left_none address (l ∷ ls) e) (zero-add _)
+
+-- a value takes the line that it has
+slot_past : (address : ℕ) (ls : List (List ℕ)) → past_slot address ls ≡ drop (line_count (slot_value address ls)) ls
+slot_past address [] = rw (value_none address [] (no_line address), left_none address [] (no_line address))
+slot_past address (l ∷ ls) = go (is_word address l) refl
+  where
+    go : (b : Bool) → is_word address l ≡ b → past_slot address (l ∷ ls) ≡ drop (line_count (slot_value address (l ∷ ls))) (l ∷ ls)
+    go true e = rw (one_line address l ls e, one_left address l ls e)
+    go false e = rw (value_none address (l ∷ ls) e, left_none address (l ∷ ls) e)
+
+-- n values take as many lines as are counted
+pub slots_past : (address n : ℕ) (ls : List (List ℕ)) → past_slots address n ls ≡ drop (slot_count address n ls) ls
+unfolding past_slots slot_count
+slots_past address zero ls = refl
+slots_past address (suc n) ls =
+    let more : ℕ = slot_count (address + 8) n (past_slot address ls) in
+    slots_past (address + 8) n (past_slot address ls) ∙ (ap (drop more) (slot_past address ls) ∙ drop-drop more (line_count (slot_value address ls)) ls)
+
+pub words_past : (entries : List ℕ) (ls : List (List ℕ)) → past_pages entries ls ≡ drop (word_count entries ls) ls
+unfolding past_pages word_count
+words_past [] ls = refl
+words_past (entry ∷ entries) ls =
+    let rest : List (List ℕ) = past_slots (page_of entry) slots ls in
+    words_past entries rest ∙ (ap (drop (word_count entries rest)) (slots_past (page_of entry) slots ls) ∙ drop-drop (word_count entries rest) (slot_count (page_of entry) slots ls) ls)
+
+-- and all of these are word lines
+lead_slot : (address : ℕ) (ls : List (List ℕ)) → line_count (slot_value address ls) ≤ plain_count Word ls
+lead_slot address [] = rw (value_none address [] (no_line address)) (omega arith)
+lead_slot address (l ∷ ls) = go (is_word address l) refl
+  where
+    go : (b : Bool) → is_word address l ≡ b → line_count (slot_value address (l ∷ ls)) ≤ plain_count Word (l ∷ ls)
+    go true e = rw (one_line address l ls e, plain_cons Word l ls (word_line address l ls e)) (omega arith)
+    go false e = rw (value_none address (l ∷ ls) e) (omega arith)
+
+pub lead_slots : (address n : ℕ) (ls : List (List ℕ)) → slot_count address n ls ≤ plain_count Word ls
+unfolding slot_count
+lead_slots address zero ls = omega arith
+lead_slots address (suc n) ls =
+    lead_more Word (line_count (slot_value address ls)) (slot_count (address + 8) n (past_slot address ls)) ls (lead_slot address ls)
+    (rw (← slot_past address ls) (lead_slots (address + 8) n (past_slot address ls)))
+
+pub lead_words : (entries : List ℕ) (ls : List (List ℕ)) → word_count entries ls ≤ plain_count Word ls
+unfolding word_count
+lead_words [] ls = omega arith
+lead_words (entry ∷ entries) ls =
+    let rest : List (List ℕ) = past_slots (page_of entry) slots ls in
+    lead_more Word (slot_count (page_of entry) slots ls) (word_count entries rest) ls (lead_slots (page_of entry) slots ls)
+    (rw (← slots_past (page_of entry) slots ls) (lead_words entries rest))
 
 pub slots_length : (address n : ℕ) (ls : List (List ℕ)) → slot_count address n ls + length (past_slots address n ls) ≡ length ls
 unfolding slot_count past_slots

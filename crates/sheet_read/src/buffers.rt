@@ -93,7 +93,8 @@ fn fits(sizes: Sizes, state: usize, room: Sizes) -> bool
         && sizes.words <= room.words
 }
 
-// Every part to the front of its buffer.
+// Every part to the front of its buffer. The four stay parameters: of a struct that holds each `&mut` the contracts would have to say besides
+// that it is the buffer that was lent.
 fn fill_all(
     shape: Shape<'_>,
     state: &mut [u64],

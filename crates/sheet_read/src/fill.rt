@@ -13,7 +13,8 @@ use crate::words::Words;
 use memory::{PAGE_BYTES, Size, page_of};
 use sheet::SLOTS;
 
-// The bytes of an entry's page, from a place of a buffer on; their lines are taken.
+// The bytes of an entry's page, from a place of a buffer on; their lines are taken. It walks as `Words::skip_page` does: of a closure that
+// wrote `bytes` a proof would know nothing.
 fn fill_page(words: &mut Words<'_>, entry: u64, bytes: &mut [u8], at: usize)
     requires { at + page_bytes ≤ length bytes.old }
     ensures left { lines words.new.text.now ≡ past_slots (page_of entry) slots (lines words.old.text.now) }

@@ -32,8 +32,11 @@ impl<'a> Words<'a> {
         let Some(row) = Row::of(Line::Word, self.text) else {
             return 0;
         };
+        if row.number(0) != address {
+            return 0;
+        }
         let value = row.number(1);
-        if row.number(0) != address || value == 0 {
+        if value == 0 {
             return 0;
         }
         self.text = row.behind();

@@ -4,6 +4,7 @@ use Rattle.std.specs.Option.{ok_or}
 use Rattle.std.proofs.lemmas.Result.{err_from_is_err_and}
 use Rattle.texts.specs.Fields.{lines, begins}
 use Rattle.sheet.specs.Lines.{form, width}
+use Rattle.sheet.specs.Sheets.{version}
 use Rattle.sheet.specs.Reading.{value, page_count}
 use Rattle.sheet.specs.declared.line.Line.{Line}
 use Rattle.sheet.specs.declared.line.Line.TheVariants.{Sheet, State, Page}
@@ -61,11 +62,12 @@ returns-in_err-state c =
     let p = err_from_is_err_and c.from_residual-in_err-state.result c.from_residual-in_err-state.ensures.1 in
     let none = c.in_err-state.ensures.ok_part in
     let at = (goal.at.returns-in_err-state c).After-number in
-    rw (p.1, p.2, line_of _ 2 _ c.in_err-state.ensures.value none, known_version _ (first_begun at) _ (named at) c.if-number-ne-VERSION.false)
+    let known : c.number.result ≡ version = omega arith in
+    rw (p.1, p.2, line_of _ 2 _ c.in_err-state.ensures.value none, known_version _ (first_begun at) _ (named at) known)
     (no_state _ (rw (behind_first (goal.at.returns-in_err-state c).After-behind) at (missing _ _ _ none c.of-2.ensures)))
 
 -- the counts are small
-few : (c : Then-not-is_empty) → 3 + c.scan_pages-pages.result.count + c.scan_words-words.result.count + c.scan_plain-steps.result.count < 2 ^ 64
+few : (c : Then-not-is_empty) → c.scan_pages-pages.result.count + c.scan_words-words.result.count + c.scan_plain-steps.result.count < 2 ^ 63
 few c =
     let pages = rw c.scan_pages-pages.ensures.kind at c.scan_pages-pages.result.room in
     let words = c.scan_words-words.result.room in
@@ -89,10 +91,11 @@ pages_found c rest = rw rest at c.scan_pages-pages.ensures
 pub returns-then-not-is_empty : goal.returns-then-not-is_empty
 returns-then-not-is_empty c =
     let at = (goal.at.returns-then-not-is_empty c).After-number in
+    let known : c.number.result ≡ version = omega arith in
     let rest = behind_state (goal.at.returns-then-not-is_empty c).After-behind-2 in
     let pages = pages_found (goal.at.returns-then-not-is_empty c).After-scan_pages-pages rest in
     let end = rw c.behind-3.ensures at c.if-not-is_empty.ensures in
-    known_version _ (first_begun at) _ (named at) c.if-number-ne-VERSION.false
+    known_version _ (first_begun at) _ (named at) known
     ∙ rw (← behind_first (goal.at.returns-then-not-is_empty c).After-behind)
     (left_over _ (state_begun (goal.at.returns-then-not-is_empty c).In_ok-state) _ pages _ c.scan_words-words.ensures _ c.scan_plain-steps.ensures (sym end))
 
@@ -100,10 +103,11 @@ pub returns : goal.returns
 unfolding saved_at
 returns c =
     let at = (goal.at.returns c).After-number in
+    let known : c.number.result ≡ version = omega arith in
     let there = found _ _ _ _ c.in_ok-state.ensures.ok_part c.of-2.ensures in
     let rest = behind_state (goal.at.returns c).After-behind-2 in
     let pages = pages_found (goal.at.returns c).After-scan_pages-pages rest in
     let end = rw c.behind-3.ensures at c.if-not-is_empty.ensures in
-    known_version _ (first_begun at) _ (named at) c.if-number-ne-VERSION.false
+    known_version _ (first_begun at) _ (named at) known
     ∙ rw (← behind_first (goal.at.returns c).After-behind, there.0, there.1)
     (whole_sheet _ (state_begun (goal.at.returns c).In_ok-state) _ pages _ c.scan_words-words.ensures _ c.scan_plain-steps.ensures (sym end))

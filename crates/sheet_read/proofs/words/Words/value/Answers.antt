@@ -1,6 +1,5 @@
 -- `Words::value` meets its contract: the next line is taken where it is the address's. Assumes nothing.
-use Rattle.std.proofs.Common.{arith, ◌≡◌, true, sym, take, length-drop}
-use mathlib.Core.Logic.{⊎_elim}
+use Rattle.std.proofs.Common.{arith, ◌≡◌, true, refl, sym, take, length-drop}
 use borrow.Author.Tests.{ne_eqb}
 use Rattle.texts.specs.Fields.{begins}
 use Rattle.sheet.specs.Lines.{form, width}
@@ -8,7 +7,7 @@ use Rattle.sheet.specs.Reading.{value}
 use Rattle.sheet.specs.declared.line.Line.TheVariants.{Word}
 use Rattle.sheet.proofs.LineLaws.{line_room}
 use Rattle.sheet_read.proofs.Stages.{value_none, left_none, no_word, other_word, zero_word, word_value, word_left}
-use Rattle.sheet_read.proofs.words.Words.value.Goals.{In-Some, After-number}
+use Rattle.sheet_read.proofs.words.Words.value.Goals.{In-Some, After-number, After-number-value}
 use Rattle.sheet_read.proofs.words.Words.value.Goals as goal
 
 -- the line, and its numbers
@@ -18,7 +17,7 @@ begun c = rw (c.in-Some.ensures.0, c.in-Some.ensures.1) at c.in-Some.row.begun
 own : (c : After-number) → c.number.result ≡ value Word 0 (take (width Word) c.args.self.now.text.now)
 own c = rw (c.in-Some.ensures.0, c.in-Some.ensures.1) at c.number.ensures
 
-held : (c : After-number) → c.number-value.result ≡ value Word 1 (take (width Word) c.args.self.now.text.now)
+held : (c : After-number-value) → c.number-value.result ≡ value Word 1 (take (width Word) c.args.self.now.text.now)
 held c = rw (c.in-Some.ensures.0, c.in-Some.ensures.1) at c.number-value.ensures
 
 pub returns-in_default : goal.returns-in_default
@@ -28,9 +27,14 @@ returns-in_default c =
 
 pub returns-then-number-address : goal.returns-then-number-address
 returns-then-number-address c =
-    let at = (goal.at.returns-then-number-address c).After-number in
     let line = begun (goal.at.returns-then-number-address c).In-Some in
-    let none = ⊎_elim (λ e. other_word _ _ line _ _ (own at) (held at) e) (λ e. zero_word _ _ line _ _ (own at) (held at) e.0 e.1) c.then-number-address.either in
+    let none = other_word _ _ line _ _ (own (goal.at.returns-then-number-address c).After-number) refl c.if-number-address.true in
+    record { value = sym (value_none _ _ none); left = sym (left_none _ _ none); count = omega arith }
+
+pub returns-then-value-eq0 : goal.returns-then-value-eq0
+returns-then-value-eq0 c =
+    let line = begun (goal.at.returns-then-value-eq0 c).In-Some in
+    let none = zero_word _ _ line _ _ (own (goal.at.returns-then-value-eq0 c).After-number) (held (goal.at.returns-then-value-eq0 c).After-number-value) c.if-number-address.false c.if-value-eq0.true in
     record { value = sym (value_none _ _ none); left = sym (left_none _ _ none); count = omega arith }
 
 pub invariant_of-self : goal.invariant_of-self
@@ -41,10 +45,11 @@ invariant_of-self c =
 
 pub returns : goal.returns
 returns c =
-    let at = (goal.at.returns c).After-number in
     let line = begun (goal.at.returns c).In-Some in
+    let at = own (goal.at.returns c).After-number in
+    let value = held (goal.at.returns c).After-number-value in
     record {
-      value = word_value _ _ line _ _ (own at) (held at) c.if-number-address.false c.if-value-eq0.false;
-      left = rw (c.behind-self.ensures, c.in-Some.ensures.0, c.in-Some.ensures.1) (word_left _ _ line _ _ (own at) (held at) c.if-number-address.false c.if-value-eq0.false);
+      value = word_value _ _ line _ _ at value c.if-number-address.false c.if-value-eq0.false;
+      left = rw (c.behind-self.ensures, c.in-Some.ensures.0, c.in-Some.ensures.1) (word_left _ _ line _ _ at value c.if-number-address.false c.if-value-eq0.false);
       count = rw (ne_eqb _ _ c.if-value-eq0.false);
     }
