@@ -45,7 +45,7 @@ unfolding on_page
 step i entry rest lent address s later true t q = here i entry rest lent address s (eqb-true _ _ t) q
 step i entry rest lent address s later false t q = there i entry rest lent address s (later q)
 
-found : (pages : List ℕ) (i lent address : ℕ) (s : Spot) → spot_from i pages lent address ≡ Some s → Found pages i lent address s
+pub found : (pages : List ℕ) (i lent address : ℕ) (s : Spot) → spot_from i pages lent address ≡ Some s → Found pages i lent address s
 unfolding spot_from
 found [] i lent address s e = let z : ◌≡◌ {A = ℕ} 0 1 = cc in absurd (omega arith)
 found (entry ∷ rest) i lent address s e = step i entry rest lent address s (found rest (suc i) lent address s) (on_page (page_of address) entry) refl e

@@ -1,5 +1,7 @@
 -- The turns of the loops: what each definition that recurs gives from a place on, in the terms of the code. Assumes nothing.
-use Rattle.std.proofs.Common.{◌≡◌, ℕ, suc, ◌+◌, ◌-◌, ◌*◌, ◌/◌, ◌%◌, ◌<◌, ◌≤◌, refl, ◌∙◌, ap, List, Result, Ok, arith}
+use Rattle.std.proofs.Common.{◌≡◌, ℕ, suc, ◌+◌, ◌-◌, ◌*◌, ◌/◌, ◌%◌, ◌<◌, ◌≤◌, refl, ◌∙◌, ap, true, false, true≢false, List, Result, Ok, Err, arith}
+use mathlib.Core.Bool.{false≢true}
+use Rattle.std.specs.Result.{is_err}
 use Rattle.std.proofs.Math.Nat.{sub-zero}
 use Rattle.addresses.specs.Address.{wrapped, plus}
 use Rattle.addresses.specs.declared.address.Width.{Width}
@@ -63,3 +65,13 @@ module _ (left : ℕ) (none : left ≤ 0) where
   pub write_end : (look : Lookup) (w : Width) (address v : ℕ) (bytes : List ℕ) → write look w address left v bytes ≡ bytes
   unfolding write
   write_end look w address v bytes = ap (λ (n : ℕ). write look w address n v bytes) le_zero
+
+-- ---- one finding after the other
+
+pub blocked_first : (r next : Result (Unit {0}) Failure) → is_err r ≡ true → and_then r next ≡ r
+blocked_first (Ok x) next e = absurd (false≢true e)
+blocked_first (Err failure) next e = refl
+
+pub ready_next : (r next : Result (Unit {0}) Failure) → is_err r ≡ false → and_then r next ≡ next
+ready_next (Ok x) next e = refl
+ready_next (Err failure) next e = absurd (true≢false e)

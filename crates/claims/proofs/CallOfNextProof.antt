@@ -29,7 +29,8 @@ use Rattle.instructions.specs.declared.instruction.Instruction.{Instruction}
 use Rattle.instructions.specs.declared.operation.Target.TheVariants.{Relative}
 use Rattle.claims.specs.CallOfNext.{CallsNext, SameListed, SameOrdinary, SameCallOfNext, CallOfNextUntouched}
 use Rattle.claims.proofs.CallWalk.{below_sp, Pushed, push, frame}
-use Rattle.claims.proofs.InstructionWalk.{built_whole, its_rule, shown_rule, exec_walk, keeps_bytes}
+use Rattle.perform.proofs.ExecLaws.{built_whole}
+use Rattle.claims.proofs.InstructionWalk.{its_rule, shown_rule, exec_walk, keeps_bytes}
 use Rattle.claims.proofs.Walks.{Rule, Walks, Weaker, weaker_walks}
 
 -- ---- what it loads and stores, by its walk

@@ -22,6 +22,7 @@ use Rattle.instructions.specs.Instruction.{fits, fits_if, well_formed}
 use Rattle.instructions.specs.Permission.{hidden, shown}
 use Rattle.perform.specs.Codes.{target, framed, program_if, codes}
 use Rattle.perform.specs.Exec.{InstructionSet, or_wrss, operation_of, whole, exec, refused, perform}
+use Rattle.perform.proofs.ExecLaws.{built_whole}
 use Rattle.replay.specs.Run.{Input, built}
 use Rattle.instructions.specs.declared.instruction.Instruction.{Instruction}
 use Rattle.instructions.specs.declared.operation.Operation.{Operation}
@@ -63,11 +64,6 @@ operation_walk look bytes (Some (Call how)) i allowed s = call_walk look (target
 operation_walk look bytes (Some (Ret release)) i allowed s = ret_walk look i.a s bytes
 operation_walk look bytes (Some (Wruss size)) i allowed s = wruss_walk look size i.a i.b i.length s bytes
 operation_walk look bytes None i allowed s = refl
-
--- of the built codes nothing precedes an instruction, and an operation is named by the code
-pub built_whole : (i : Instruction) (allowed : Bool) (s : State) → whole codes i allowed s ≡ or_wrss (decoded i.code) i allowed s (program_if (decoded i.code) i s)
-unfolding whole operation_of ◌>>=◌
-built_whole i allowed s = refl
 
 -- ---- a single operation of any instruction set
 

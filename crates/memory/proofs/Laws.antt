@@ -2,14 +2,15 @@
 -- page lists alone stand in the crates below (proofs/Laws.antt of crates/addresses and crates/pages).
 --
 -- By what trying an access finds:
---     store_done                                             what a store leaves that can be done
+--     load_done, load_failed, loaded_value, loaded_failure   what a load gives, and back
+--     store_done, store_failed                               what a store leaves
 -- By where an access lies:
 --     told                                                   what trying it finds
 --     placed_written                                         bytes stored at its place are what it leaves
 -- What a store leaves:
 --     value_written                                          a load of it gives the value's low bytes back
 --     written_elsewhere                                      every other address holds what it held
---     length_written                                         no byte is added or lost
+--     length_written, length_stored                          no byte is added or lost
 -- Where addresses lead:
 --     lookup_places                                          to places among the lent bytes, no two to one place
 --     lookup_kept                                            where they led before, while no byte is added or lost
@@ -29,9 +30,9 @@
 --     order_free                                             two valid lists of the same pages hold the same at every address
 -- Assumes nothing.
 
-pub use Rattle.accesses.proofs.Laws.{store_done}
+pub use Rattle.accesses.proofs.Laws.{load_done, load_failed, loaded_value, loaded_failure, store_done, store_failed}
 pub use Rattle.memory.proofs.Stored.{value_written, written_elsewhere}
-pub use Rattle.memory.proofs.TwoMemories.{length_written}
+pub use Rattle.memory.proofs.TwoMemories.{length_written, length_stored}
 pub use Rattle.memory.proofs.Lookup.{lookup_places, lookup_kept}
 pub use Rattle.memory.proofs.OnePage.{first_byte_decides, one_page_exactly, told, placed_written}
 pub use Rattle.memory.proofs.OtherKinds.{same_kind_probe, written_on_kind}

@@ -4,7 +4,7 @@ use native.Mathlib.Decide.{ℕ_discrete}
 use Rattle.addresses.specs.Address.{plus}
 use Rattle.pages.specs.Pages.{Lookup}
 use Rattle.numbers.specs.Numbers.{byte_count}
-use Rattle.accesses.specs.Access.{and_then, scan, on_kind, listed_byte, kind_number, start, canonical_bytes, listed_bytes, probe, byte_in, number, put_byte, write, value, loaded_if, load, written}
+use Rattle.accesses.specs.Access.{and_then, scan, on_kind, listed_byte, kind_number, start, canonical_bytes, listed_bytes, probe, byte_in, number, put_byte, write, value, loaded_if, load, written, stored_if, store}
 use Rattle.memory.specs.Extends.{cell_in, present, cell, Extends, Places}
 use Rattle.addresses.specs.declared.address.Width.{Width}
 use Rattle.pages.specs.declared.pages.Spot.{Spot}
@@ -177,6 +177,14 @@ length_write look w address (suc n) v bytes = length_write look w (plus w addres
 pub length_written : (look : Lookup) (a : Access) (v : ℕ) (bytes : List ℕ) → length (written look a v bytes) ≡ length bytes
 unfolding written
 length_written look a v bytes = length_write look a.width (start a) (byte_count a.size) v bytes
+
+pub length_stored : (look : Lookup) (a : Access) (v : ℕ) (bytes : List ℕ) → length (store look a v bytes) ≡ length bytes
+unfolding store
+length_stored look a v bytes = go (probe look a)
+  where
+    go : (r : Result (Unit {0}) Failure) → length (stored_if r (written look a v bytes) bytes) ≡ length bytes
+    go (Ok x) = length_written look a v bytes
+    go (Err failure) = refl
 
 -- ---- memories that hold the same at every address
 

@@ -5,7 +5,7 @@ use mathlib.Core.Bool.{Bool, true, false, cond}
 use mathlib.Core.List.{List, [], ◌∷◌, ◌++◌, append_assoc, append-nil}
 use native.Mathlib.Numerals.{add-one}
 use native.Mathlib.Omega.{arith}
-use lib.ListN.{length, take, drop, set, drop_of_length-le, length-append, length-drop, length-set, take-append-drop}
+use lib.ListN.{length, get_or, take, drop, set, drop_of_length-le, length-append, length-drop, length-set, take-append-drop}
 use lib.Seq.{length-take-le, take_at, drop-append-add, drop-drop, set_split, drop-cons, lt-length-set, get_or-set_same, take-set-le, drop-set-lt}
 use borrow.Rule.Slice.PartMut.{put_mid}
 use Rattle.numbers.specs.Numbers.{inside, little_bytes, put_at, put_if}
@@ -65,15 +65,28 @@ laid_whole words buffer same =
     let all : length buffer ≤ 0 + length words = omega arith in
     rw (drop_of_length-le buffer all) (append-nil words)
 
-set_laid : {A : Type 0} (out : List A) (at : ℕ) (v : A) → at < length out → set out at v ≡ laid out at (v ∷ [])
+pub set_laid : {A : Type 0} (out : List A) (at : ℕ) (v : A) → at < length out → set out at v ≡ laid out at (v ∷ [])
 unfolding laid
 set_laid out at v h = let one : at + 1 ≡ suc at = omega arith in rw one (set_split out at v h)
+
+pub laid_start : {A : Type 0} (out : List A) (at : ℕ) (piece : List A) → laid out at piece ≡ laid out (at + 0) piece
+laid_start out at piece = let same : at + 0 ≡ at = omega arith in rw same
+
+pub laid_end : {A : Type 0} (out : List A) (at : ℕ) (piece : List A) (i : ℕ) → length piece ≤ i → laid out at (drop i piece) ≡ out
+laid_end out at piece i end = rw (drop_of_length-le piece end) (laid_nil out at)
 
 -- ---- pieces laid one element at a time
 
 -- from the left
 pub laid_cons : {A : Type 0} (out : List A) (at : ℕ) (x : A) (rest : List A) → at < length out → laid out at (x ∷ rest) ≡ laid (set out at x) (at + 1) rest
 laid_cons out at x rest room = rw (set_laid out at x room) (laid_turn out at (x ∷ []) rest (omega arith))
+
+pub laid_element : {A : Type 0} (out : List A) (at : ℕ) (piece : List A) (i : ℕ) (d : A) → i < length piece → at + i < length out
+    → laid out (at + i) (drop i piece) ≡ laid (set out (at + i) (get_or piece i d)) (at + (i + 1)) (drop (i + 1) piece)
+laid_element out at piece i d more room =
+    let sum : at + i + 1 ≡ at + (i + 1) = omega arith in
+    let next : drop i piece ≡ get_or piece i d ∷ drop (i + 1) piece = rw (add-one i, drop-cons piece i d more) in
+    rw (next, laid_cons out (at + i) (get_or piece i d) (drop (i + 1) piece) room, sum)
 
 -- from the right: a last element that is in place already
 pub laid_last : {A : Type 0} (out : List A) (at : ℕ) (piece : List A) (x : A) → at + length piece < length out

@@ -1,2 +1,2 @@
 -- Laws of one instruction.
-mod ExecLaws
+pub mod ExecLaws

@@ -10,7 +10,11 @@
 --     blamed                  the fault that `?` makes of an access that cannot be done
 --     continues, breaks       one program after another, by how the first ends
 --     completes, faults       a whole operation, by how its program ends
-use Rattle.std.proofs.Common.{ℕ, ◌≡◌, refl, ◌∙◌, ap, Bool, true, false, List, [], ◌∷◌, rules, Result, Ok, Err, IsErrAnd}
+--     some_bytes, long_small, product    small numbers
+use Rattle.std.proofs.Common.{ℕ, ◌*◌, ◌^◌, ◌<◌, ◌≤◌, ◌≡◌, refl, ◌∙◌, ap, Bool, true, false, cond, List, [], ◌∷◌, rules, Result, Ok, Err, IsErrAnd, arith}
+use Rattle.numbers.specs.Numbers.{byte_count}
+use Rattle.numbers.specs.declared.size.Size.{Size}
+use Rattle.numbers.specs.declared.size.Size.TheVariants.{Four, Eight}
 use Rattle.accesses.specs.Access.{probe, value, written, loaded_if, stored_if, load as load_at, store as store_at}
 use Rattle.pages.specs.Pages.{Lookup}
 use Rattle.accesses.specs.declared.access.Access.{Access}
@@ -23,6 +27,7 @@ use Rattle.answers.specs.Blame.{blame}
 use Rattle.processor.specs.Prog.{Prog, done, stop, fetch, put, ◌>>=◌, ◌>>◌, load, touch, store, unless, only_if, Ending, ended, broken, on_reach, interp, operate}
 use Rattle.answers.specs.declared.answer.Answer.TheVariants.{Completed, Faulted}
 use Rattle.answers.specs.declared.answer.Fault.{Fault}
+use Rattle.processor.specs.State.{is_long, long_bit}
 use Rattle.processor.specs.declared.state.State.{State}
 
 -- how a program goes on from what came of an access or of some stores
@@ -174,3 +179,21 @@ module _ (look : Lookup) {A : Type 0} (p : Prog A) where
   pub none_stored : (stores : List Store) (bytes : List ℕ) (b : Blocked) → try_all look stores ≡ Err b → interp look (put_all stores >> p) bytes ≡ broken (blame b.access b.failure)
   unfolding go_on
   none_stored stores bytes b e = all_tried stores bytes ∙ rw e
+
+-- ---- small numbers
+
+pub some_bytes : (size : Size) → 0 < byte_count size
+some_bytes Four = omega arith
+some_bytes Eight = omega arith
+
+pub long_small : (s : State) → long_bit s ≤ 1
+long_small s = go (is_long s)
+  where
+    go : (t : Bool) → cond t 1 0 ≤ 1
+    go true = omega arith
+    go false = omega arith
+
+-- up to 255 elements of a size fit a word
+pub product : (size : Size) (n : ℕ) → n < 256 → byte_count size * n < 2 ^ 64
+product Four n h = omega arith
+product Eight n h = omega arith
